@@ -1,0 +1,122 @@
+-- Demand 3, with document 01, "The two lists of demand 3": the claim, as one statement about both whole lists. The statement only; it is proved in proofs/.
+use Prim.Native.Nat.{_≤_, _<_}
+use mathlib.Core.Path.{_≡_}
+use Rattle.model.specs.Base.{ℕ, List, [], _∷_, _++_, map, Bool, true, false, not, _&&_, _||_, Option, some, eqb, length}
+use Rattle.model.specs.Types.{Group, Operating, Orientational, Levelling, Enabled, OperatingPart, Single, Pair}
+use Rattle.model.specs.Ascii.{ascii}
+use Rattle.model.specs.Limits.{maxSystems, bufferLimit}
+use Rattle.model.specs.Memory.{System, Memory, State, Ref, nameOf}
+use Rattle.model.specs.Pose.{Pose}
+use Rattle.model.specs.Chain.{hop, chain, resultant}
+use Rattle.model.specs.Use.{inGroup}
+use Rattle.model.specs.WellFormed.{enabledFine}
+use Rattle.model.specs.Request.{Change, Request, Reading, reading, unknown, malformed, beyond, asks, change, list, lastError, define, link, copy, remove, enable, setLevel, save, restore, reset}
+use Rattle.model.specs.Reply.{decimal, listing, everySystem, resultantLine}
+use Rattle.model.specs.Image.{accepted}
+use Rattle.model.specs.Machine.{Outcome, answered, stepped, startFactory, startImage}
+use Rattle.model.specs.Trace.{Call, Line, afterCalls, afterLines}
+
+-- [Two lists 1] a start: the factory state, or the state that an accepted image gives
+pub data Start : Type 0 where
+  factory-start : Start
+  image-start : (bytes : List ℕ) (m : Memory) → accepted bytes ≡ some m → Start
+
+unfoldable pub startState : Start → State
+startState factory-start = startFactory
+startState (image-start bytes m e) = startImage bytes .state
+
+-- [demand 3] KEN, RPA and DPA; KEN? is another command
+unfoldable pub changesEnabled : Change → Bool
+changesEnabled (define k n t u) = false
+changesEnabled (link a b) = false
+changesEnabled (copy s d) = false
+changesEnabled (remove a) = false
+changesEnabled (enable a) = true
+changesEnabled (setLevel n) = false
+changesEnabled save = false
+changesEnabled restore = true
+changesEnabled reset = true
+
+unfoldable pub asksToEnable : Reading → Bool
+asksToEnable unknown = false
+asksToEnable malformed = false
+asksToEnable beyond = false
+asksToEnable (asks (change c)) = changesEnabled c
+asksToEnable (asks (list q)) = false
+asksToEnable (asks lastError) = false
+
+-- [Two lists 1] no accepted KEN, RPA or DPA among the lines, each judged at its turn
+unfoldable pub steady : State → List Line → Bool
+steady st [] = true
+steady st (c ∷ cs) =
+    let o = stepped st (c .bytes) (c .buffer) in
+    not (eqb (o .number) 0 && asksToEnable (reading (c .bytes))) && steady (o .state) cs
+
+-- [Two lists 2] what is compared of an enabled system: its name, its chain by name, its resultant and steps
+pub record Held : Type 0 where
+  pub name : List ℕ
+  pub chain : List (List ℕ)
+  pub resultant : Pose
+  pub steps : ℕ
+
+unfoldable pub held : Memory → Ref → Held
+held m r =
+    let l = m .systems in
+    record {
+      name = nameOf l r;
+      chain = map (λ q. nameOf l (inGroup (r .group) q)) (package.Rattle.model.specs.Chain.chain l (r .place));
+      resultant = package.Rattle.model.specs.Chain.resultant l (r .place);
+      steps = length (package.Rattle.model.specs.Chain.chain l (r .place));
+    }
+
+-- one system, or work and tool
+pub data HeldPart : Type 0 where
+  alone : Held → HeldPart
+  pair : Held → Held → HeldPart
+
+unfoldable pub heldPart : Memory → OperatingPart → HeldPart
+heldPart m (Single p) = alone (held m (inGroup Operating p))
+heldPart m (Pair w t) = pair (held m (inGroup Operating w)) (held m (inGroup Operating t))
+
+-- the enabled frames of a memory
+pub record Frames : Type 0 where
+  pub operating : HeldPart
+  pub orientational : Held
+  pub levelling : Held
+
+unfoldable pub frames : Memory → Frames
+frames m =
+    record {
+      operating = heldPart m (m .enabled .operating);
+      orientational = held m (inGroup Orientational (m .enabled .orientational));
+      levelling = held m (inGroup Levelling (m .enabled .levelling));
+    }
+
+-- [demand 3] of one memory: in each group one system or pair is enabled (the type `Enabled` has exactly that), defined and of the allowed types; and the
+-- chain of every system, at place q, ends at its group's fixed system in at most 16 steps
+pub record Sound (m : Memory) : Type 0 where
+  pub enabled : enabledFine (m .systems) (m .enabled) ≡ true
+  pub ends : (q : ℕ) → q ≤ length (m .systems) → hop (m .systems) (length (chain (m .systems) q)) q ≡ 0
+  pub short : (q : ℕ) → q ≤ length (m .systems) → length (chain (m .systems) q) ≤ maxSystems
+
+-- [Two lists 2] KLT? sent next: refused only with 2; otherwise a line for each system, which ends in the steps of its chain
+pub record Listed (st : State) : Type 0 where
+  pub refused : (b : List ℕ) → length b < bufferLimit → stepped st (ascii "KLT?") b .number ≡ 2
+  pub replies : (b : List ℕ) → bufferLimit ≤ length b →
+      stepped st (ascii "KLT?") b ≡ answered st (listing (map (resultantLine (st .volatile .systems)) (everySystem (st .volatile .systems)))) b
+  pub steps : (r : Ref) → (head : List ℕ) ×
+      (resultantLine (st .volatile .systems) r ≡ head ++ (ascii " Steps=" ++ decimal (length (chain (st .volatile .systems) (r .place)))))
+
+-- what is so after both lists: st when the second list began, st′ after it
+pub record AfterBoth (st st′ : State) : Type 0 where
+  pub volatile : Sound (st′ .volatile)
+  pub permanent : Sound (st′ .permanent)
+  pub listed : Listed st′
+  pub still : frames (st′ .volatile) ≡ frames (st .volatile)
+
+-- demand 3
+abbrev pub Demand3 : Type 0
+Demand3 =
+    (start : Start) (first : List Call) (second : List Line) →
+    steady (afterCalls (startState start) first) second ≡ true →
+    AfterBoth (afterCalls (startState start) first) (afterLines (afterCalls (startState start) first) second)

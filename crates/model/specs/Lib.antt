@@ -1,0 +1,24 @@
+-- The machine of document 01, in the order in which it is read. A comment names the paragraph that a definition renders:
+-- [Memory 2] is the second paragraph of "Memory and state", [Poses] "Poses and chains", [A line], [Commands, KRM] the bullet that begins so,
+-- [lists] the paragraph "Lists run ..", [Error 9] the item, [Errors, end] the paragraph under the items, [Image], [Two lists 1], [ksrun].
+pub mod Base
+pub mod Types
+pub mod Ascii
+pub mod Lists
+pub mod Limits
+pub mod Kinds
+pub mod Pose
+pub mod Memory
+pub mod Chain
+pub mod Use
+pub mod Words
+pub mod WellFormed
+pub mod Request
+pub mod Effects
+pub mod Reply
+pub mod Refusals
+pub mod Image
+pub mod Machine
+pub mod Trace
+pub mod Demand
+pub mod Stored

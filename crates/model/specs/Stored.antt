@@ -1,0 +1,82 @@
+-- What a stored value stands for (document 01, "Empty programs": free is only what lies beyond the last user system or a name's last byte).
+use Rattle.model.specs.Base.{ℕ, List, [], map, Bool, true, false, _&&_, leb, take}
+use Rattle.model.specs.Types.{Name, StoredSystem, StoredMemory, StoredState}
+use Rattle.model.specs.Lists.{all}
+use Rattle.model.specs.Limits.{maxSystems, nameLimit}
+use Rattle.model.specs.Memory.{System, Memory, State}
+use Rattle.model.specs.Machine.{Outcome, Begun, stepped, restart, writeImage}
+
+-- ---- values
+
+-- the bytes of a stored name
+abbrev pub bytesOf : Name → List ℕ
+bytesOf n = take (n .len) (n .bytes)
+
+abbrev pub systemOf : StoredSystem → System
+systemOf s = record { kind = s .kind; name = bytesOf (s .name); offset = s .offset; turns = s .turns; pred = s .pred }
+
+abbrev pub systemsOf : StoredMemory → List System
+systemsOf m = map systemOf (take (m .count) (m .systems))
+
+abbrev pub memoryOf : StoredMemory → Memory
+memoryOf m = record { systems = systemsOf m; enabled = m .enabled }
+
+abbrev pub stateOf : StoredState → State
+stateOf s = record { volatile = memoryOf (s .volatile); permanent = memoryOf (s .permanent); level = s .level; error = s .error }
+
+-- ---- shape: the count and the lengths lie within their arrays
+
+abbrev pub nameShaped : StoredSystem → Bool
+nameShaped s = leb (s .name .len) nameLimit
+
+unfoldable pub memoryShaped : StoredMemory → Bool
+memoryShaped m = leb (m .count) maxSystems && all nameShaped (take (m .count) (m .systems))
+
+unfoldable pub shaped : StoredState → Bool
+shaped s = memoryShaped (s .volatile) && memoryShaped (s .permanent)
+
+-- ---- the calls over stored states
+
+-- a stored state stands for a state of the machine, or, without shape, for itself alone
+pub data View : Type 0 where
+  shapeless : StoredState → View
+  holds : State → View
+
+unfoldable pub viewOf : StoredState → View
+viewOf s = elim (shaped s) [ true ↦ holds (stateOf s) | false ↦ shapeless s ]
+
+-- what a call returns, over views
+pub record Answered : Type 0 where
+  pub state : View
+  pub number : ℕ
+  pub count : ℕ
+  pub buffer : List ℕ
+
+pub record Restarted : Type 0 where
+  pub state : View
+  pub number : ℕ
+
+abbrev pub ofOutcome : Outcome → Answered
+ofOutcome o = record { state = holds (o .state); number = o .number; count = o .count; buffer = o .buffer }
+
+abbrev pub ofBegun : Begun → Restarted
+ofBegun o = record { state = holds (o .state); number = o .number }
+
+-- [Error 1] a state without shape comes back as it is, and so does the buffer
+abbrev pub unaltered : StoredState → List ℕ → Answered
+unaltered s b = record { state = shapeless s; number = 1; count = 0; buffer = b }
+
+-- a command line
+unfoldable pub lineAnswer : View → List ℕ → List ℕ → Answered
+lineAnswer (shapeless s) line b = unaltered s b
+lineAnswer (holds st) line b = ofOutcome (stepped st line b)
+
+-- the image of the permanent memory
+unfoldable pub imageAnswer : View → List ℕ → Answered
+imageAnswer (shapeless s) b = unaltered s b
+imageAnswer (holds st) b = ofOutcome (writeImage st b)
+
+-- a restart
+unfoldable pub restartAnswer : View → Restarted
+restartAnswer (shapeless s) = record { state = shapeless s; number = 1 }
+restartAnswer (holds st) = ofBegun (restart st)
