@@ -52,7 +52,7 @@ module _ (st : State) (line b : List ℕ) where
 
 -- ---- a start from an image
 
-start-none : (bytes : List ℕ) → accepted bytes ≡ none → startImage bytes ≡ began startFactory 14
+pub start-none : (bytes : List ℕ) → accepted bytes ≡ none → startImage bytes ≡ began startFactory 14
 unfolding startImage
 start-none bytes e = rw (e, startImage)
 
