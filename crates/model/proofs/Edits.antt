@@ -1,19 +1,18 @@
 -- Define, link and copy keep a memory well formed, each under what its ladder has ruled out.
-use Prim.Native.Nat.{ℕ, zero, suc, _≤_, _<_}
+use Prim.Native.Nat.{ℕ, zero, suc, _<_}
 use mathlib.Core.Path.{_≡_, refl, sym, ap, _∙_}
 use mathlib.Core.List.{List}
-use mathlib.Core.Bool.{Bool, true, false, not, _&&_, _||_}
+use mathlib.Core.Bool.{true, false, not, _&&_}
 use native.Mathlib.Omega.{arith}
 use borrow.Author.Tests.{not-false, ne-eqb}
 use lib.Dec.{eqb}
-use lib.ListN.{length}
 use Rattle.model.specs.Types.{Kind, Ksd, Kst, Ksw, Ksb, Kld, Group, Operating, Orientational, Levelling, Vec3, Turns}
 use Rattle.model.specs.Lists.{same}
-use Rattle.model.specs.Kinds.{ofKind, sameKind, sameGroup}
+use Rattle.model.specs.Kinds.{ofKind, sameKind}
 use Rattle.model.specs.Memory.{System, Memory, systemAt, isUser, placeNamed, named, userNamed}
-use Rattle.model.specs.Chain.{predOf, hop, onChain}
+use Rattle.model.specs.Chain.{predOf, onChain}
 use Rattle.model.specs.Words.{legalName, reserved}
-use Rattle.model.specs.WellFormed.{offsetsFine, turnsFine, noOffset}
+use Rattle.model.specs.WellFormed.{offsetsFine, turnsFine}
 use Rattle.model.specs.Use.{nameInUse}
 use Rattle.model.specs.Refusals.{wrongPred, otherType, atOrBefore, noRoom}
 use Rattle.model.specs.Effects.{put, firstPred, fresh, linked, withPred, withName}

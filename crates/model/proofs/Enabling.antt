@@ -1,6 +1,6 @@
 -- Enabling keeps a memory well formed: each group has one of its allowed types, and never a pair of two ZEROs.
-use Prim.Native.Nat.{ℕ, _+_, _≤_, _<_}
-use mathlib.Core.Path.{_≡_, refl}
+use Prim.Native.Nat.{ℕ, _≤_, _<_}
+use mathlib.Core.Path.{refl}
 use mathlib.Core.List.{List}
 use mathlib.Core.Bool.{Bool, true, false, cond}
 use mathlib.Core.Logic.{⊎-elim}
@@ -9,7 +9,7 @@ use borrow.Author.Tests.{eqb-false}
 use lib.Dec.{eqb}
 use lib.ListN.{length}
 use Rattle.model.specs.Types.{Kind, Ksd, Kst, Ksw, Ksb, Kld, Group, Operating, Orientational, Levelling, Enabled, OperatingPart, Single, Pair}
-use Rattle.model.specs.Memory.{System, Memory, Ref, systemAt, placeNamed, named}
+use Rattle.model.specs.Memory.{System, Memory, Ref, systemAt, named}
 use Rattle.model.specs.Effects.{workHalf, toolHalf, enabledUser, enabledFixed, enabling, withOperating, withLevelling}
 use Rattle.model.proofs.Basics.{either}
 use Rattle.model.proofs.Fine.{Placed, PartPlaced, EnabledPlaced, Fine}

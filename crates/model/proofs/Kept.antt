@@ -1,30 +1,29 @@
 -- Well-formedness is kept by every call, and so by every list of calls from either start.
-use Prim.Native.Nat.{ℕ, _≤_, _<_}
+use Prim.Native.Nat.{ℕ, _≤_}
 use mathlib.Core.Path.{_≡_, refl, sym, ap, _∙_}
 use mathlib.Core.List.{List, [], _∷_}
 use mathlib.Core.Bool.{Bool, true, false, cond, not, _&&_, _||_}
 use mathlib.Core.Option.{Option, none, some}
-use mathlib.Core.Logic.{⊎-elim}
 use native.Mathlib.Omega.{arith}
 use borrow.Author.Tests.{leb-true, le-leb}
-use lib.Dec.{eqb, leb}
+use lib.Dec.{eqb}
 use Rattle.model.specs.Types.{Kind, Vec3, Turns}
 use Rattle.model.specs.Lists.{any, between, same}
 use Rattle.model.specs.Limits.{largestNumber}
 use Rattle.model.specs.Kinds.{ofKind}
-use Rattle.model.specs.Memory.{Memory, State, factory, started, restarted, isUser, placeNamed, named, userNamed}
+use Rattle.model.specs.Memory.{Memory, State, factory, started, placeNamed, userNamed}
 use Rattle.model.specs.Words.{legalName, reserved}
 use Rattle.model.specs.WellFormed.{memoryFine, wellFormed, offsetsFine, turnsFine, noOffset}
 use Rattle.model.specs.Use.{nameInUse}
-use Rattle.model.specs.Request.{Change, Query, Request, Reading, reading, unknown, malformed, beyond, asks, change, list, lastError, define, link, copy, remove, enable, setLevel, save, restore, reset}
-use Rattle.model.specs.Refusals.{first, absent, locked, wrongPred, otherType, atOrBefore, noRoom, short, unreadable, changeLadder, requestLadder, readingLadder, ladder, refusal}
+use Rattle.model.specs.Request.{Change, Reading, reading, unknown, malformed, beyond, asks, change, list, lastError, define, link, copy, remove, enable, setLevel, save, restore, reset}
+use Rattle.model.specs.Refusals.{first, absent, wrongPred, otherType, atOrBefore, noRoom, changeLadder, requestLadder, readingLadder}
 use Rattle.model.specs.Effects.{withVolatile, withError, withName, put, fresh, linked, removedAt, changed, next}
 use Rattle.model.specs.Image.{image, readMemory, imageOf?, accepted}
-use Rattle.model.specs.Machine.{Outcome, Begun, refused, carriedOut, stepped, restart, startFactory, startImage}
+use Rattle.model.specs.Machine.{carriedOut, stepped, restart, startImage}
 use Rattle.model.specs.Trace.{Call, Line, line, again, called, afterCalls, afterLines}
 use Rattle.model.specs.Demand.{Start, factory-start, image-start, startState}
 use Rattle.model.specs.Claims.{applies, WellFormedKept}
-use Rattle.model.proofs.Basics.{and-split, and-join, or-false, or-right, either, true-false}
+use Rattle.model.proofs.Basics.{and-split, and-join, or-false, or-right, true-false}
 use Rattle.model.proofs.Open.{definitions-open}
 use Rattle.model.proofs.Ladder.{Clear, clear-of}
 use Rattle.model.proofs.Refusing.{by-case, restart-fine}

@@ -1,9 +1,9 @@
 -- A ladder whose numbers ascend gives the first number that applies, and the ladder of every line ascends.
-use Prim.Native.Nat.{ℕ, zero, suc, _≤_, _<_}
-use mathlib.Core.Path.{_≡_, refl, sym, ap, _∙_}
+use Prim.Native.Nat.{ℕ, _≤_, _<_}
+use mathlib.Core.Path.{_≡_, refl, sym, _∙_}
 use mathlib.Core.Bool.{Bool, true, false, _&&_}
 use mathlib.Core.List.{List, [], _∷_}
-use mathlib.Core.Logic.{_⊎_, inl, inr, ⊎-elim, _↔_}
+use mathlib.Core.Logic.{⊎-elim}
 use native.Mathlib.Omega.{arith}
 use native.Mathlib.Decide.{decLt, ℕ-discrete}
 use borrow.Author.Tests.{ltb-true, ne-eqb, eq-eqb}
@@ -11,7 +11,7 @@ use lib.Dec.{eqb, ltb, leb}
 use Rattle.model.specs.Lists.{all, any}
 use Rattle.model.specs.Limits.{largestNumber}
 use Rattle.model.specs.Memory.{Memory, State}
-use Rattle.model.specs.Request.{Change, Query, Request, Reading, reading, unknown, malformed, beyond, asks, change, list, lastError, define, link, copy, remove, enable, setLevel, save, restore, reset, enabledOnes, systemsAll, links, resultants, resultantOf}
+use Rattle.model.specs.Request.{Change, Query, Reading, reading, unknown, malformed, beyond, asks, change, list, lastError, define, link, copy, remove, enable, setLevel, save, restore, reset, enabledOnes, systemsAll, links, resultants, resultantOf}
 use Rattle.model.specs.Refusals.{Rung, first, short, unreadable, refusal, changeLadder, queryLadder, requestLadder, readingLadder, ladder}
 use Rattle.model.proofs.Basics.{and-split, or-false, either, true-false}
 use Rattle.model.specs.Claims.{applies, FirstToApply, ascending}

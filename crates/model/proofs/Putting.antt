@@ -1,19 +1,18 @@
 -- A system put into a memory, in its place or last, keeps the memory well formed.
-use Prim.Native.Nat.{ℕ, zero, suc, _+_, _-_, _≤_, _<_}
+use Prim.Native.Nat.{ℕ, suc, _-_, _≤_, _<_}
 use mathlib.Core.Path.{_≡_, refl, sym, ap, _∙_}
 use mathlib.Core.List.{List, [], _∷_, _++_}
-use mathlib.Core.Bool.{Bool, true, false, not, _&&_}
+use mathlib.Core.Bool.{true, false}
 use mathlib.Core.Logic.{⊎-elim}
 use native.Mathlib.Omega.{arith}
 use native.Mathlib.Decide.{decLt, ℕ-discrete}
 use borrow.Author.Tests.{leb-false}
-use lib.Dec.{leb}
 use lib.ListN.{length, set, length-set}
 use Rattle.model.specs.Types.{Kind, Enabled, OperatingPart, Single, Pair}
 use Rattle.model.specs.Limits.{maxSystems}
 use Rattle.model.specs.Memory.{System, Memory, systemAt, blank, isUser, placeNamed, userNamed}
 use Rattle.model.specs.Refusals.{noRoom}
-use Rattle.model.specs.Effects.{withSystems, put, mendedPart, mendedEnabled}
+use Rattle.model.specs.Effects.{withSystems, put}
 use Rattle.model.proofs.Basics.{either}
 use Rattle.model.proofs.Relink.{Misses, replaced-other, replaced-same, replaced-no-ring, added-length, added-old, added-new, added-no-ring}
 use Rattle.model.proofs.Fine.{Stands, Placed, ownFine, PartPlaced, EnabledPlaced, Systems, Fine, preds-within, blank-beyond}

@@ -1,6 +1,6 @@
 -- What a line asks for is legal: names, offsets within the limit, 0 to 3 quarter turns, no offset where the type has turns only, level 0 or 1.
-use Prim.Native.Nat.{ℕ, zero, suc, _-_, _/_, _%_, _≤_, _<_}
-use mathlib.Core.Path.{_≡_, refl, sym, ap, _∙_}
+use Prim.Native.Nat.{ℕ, zero, suc, _/_, _%_, _≤_, _<_}
+use mathlib.Core.Path.{_≡_, refl, ap, _∙_}
 use mathlib.Core.List.{List, [], _∷_}
 use mathlib.Core.Bool.{Bool, true, false, cond, not, _&&_, _||_}
 use mathlib.Core.Option.{Option, none, some}
@@ -8,7 +8,7 @@ use mathlib.Core.Logic.{_⊎_, inl, inr, ⊎-elim}
 use native.Mathlib.Omega.{arith}
 use borrow.Author.Tests.{eqb-true, leb-true, le-leb}
 use lib.Dec.{eqb, leb}
-use lib.IntN.{ℤ, pos, negsuc, natAbs}
+use lib.IntN.{ℤ, pos, negsuc}
 use lib.ListN.{length, getD, set}
 use lib.Seq.{getD-set-other}
 use Rattle.model.specs.Types.{Kind, Ksd, Kst, Ksw, Ksb, Kld, Vec3, Turns}
@@ -16,10 +16,10 @@ use Rattle.model.specs.Ascii.{ascii}
 use Rattle.model.specs.Lists.{all, between, there?, same, none?}
 use Rattle.model.specs.Limits.{quarterTurn}
 use Rattle.model.specs.Kinds.{ofKind}
-use Rattle.model.specs.Words.{words, legalName, number, offset?, angle?, quarters}
+use Rattle.model.specs.Words.{words, legalName, number, angle?, quarters}
 use Rattle.model.specs.WellFormed.{offsetsFine, turnsFine, noOffset}
-use Rattle.model.specs.Request.{Change, Query, Request, Reading, Command, Values, reading, unknown, malformed, beyond, asks, change, list, lastError, define, link, copy, remove, enable, setLevel, save, restore, reset, enabledOnes, systemsAll, links, resultants, resultantOf, axis, firstAxis, mayCome, pairs, noValues, given, inRange, offsetsOf, turnsOf, definition, names?, word, oneName, twoNames, sameWords, fixedWords, levelWords, resultantWords, commands, readBy, readWords}
-use Rattle.model.proofs.Basics.{and-split, and-join, or-left, or-right, either, true-false, all-at}
+use Rattle.model.specs.Request.{Change, Query, Reading, Command, Values, reading, unknown, malformed, beyond, asks, change, list, lastError, define, link, copy, remove, enable, setLevel, save, restore, reset, enabledOnes, systemsAll, links, resultants, resultantOf, axis, firstAxis, mayCome, pairs, noValues, given, inRange, offsetsOf, turnsOf, definition, names?, word, oneName, twoNames, sameWords, fixedWords, levelWords, resultantWords, commands, readBy, readWords}
+use Rattle.model.proofs.Basics.{and-split, and-join, or-left, or-right, either, all-at}
 
 -- ---- what is legal
 

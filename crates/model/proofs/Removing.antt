@@ -1,19 +1,19 @@
 -- A removal keeps a memory well formed: every place that is held, a predecessor's or an enabled one, is mended.
-use Prim.Native.Nat.{ℕ, zero, suc, _+_, _-_, _≤_, _<_}
-use mathlib.Core.Path.{_≡_, refl, sym, ap, _∙_}
+use Prim.Native.Nat.{ℕ, _+_, _≤_, _<_}
+use mathlib.Core.Path.{_≡_, sym, ap, _∙_}
 use mathlib.Core.List.{List}
-use mathlib.Core.Bool.{Bool, true, false}
+use mathlib.Core.Bool.{true, false}
 use native.Mathlib.Omega.{arith}
 use native.Mathlib.Decide.{decLt, ℕ-discrete}
 use lib.ListN.{length}
-use Rattle.model.specs.Types.{Kind, Ksd, Kst, Ksw, Ksb, Kld, Enabled, OperatingPart, Single, Pair}
+use Rattle.model.specs.Types.{Kind, Ksd, Kst, Ksw, Ksb, Kld, OperatingPart, Single, Pair}
 use Rattle.model.specs.Memory.{System, Memory, systemAt, isUser, placeNamed}
 use Rattle.model.specs.Chain.{hop}
 use Rattle.model.specs.Use.{nameInUse}
-use Rattle.model.specs.Effects.{mended, mendedPart, mendedEnabled, removedAt}
+use Rattle.model.specs.Effects.{mended, mendedPart, removedAt}
 use Rattle.model.proofs.Relink.{Misses}
 use Rattle.model.proofs.Removal.{old, old-low, old-high, old-mended, mended-old, mended-zero, mended-gone, mended-pred, mended-fixed, mended-in-range, without, without-length, removed-at, not-its-own, removed-no-ring}
-use Rattle.model.proofs.Fine.{Stands, Placed, ownFine, PartPlaced, EnabledPlaced, Systems, Fine, preds-within}
+use Rattle.model.proofs.Fine.{Stands, Placed, PartPlaced, Systems, Fine, preds-within}
 use Rattle.model.proofs.Named.{place-stands, user-place}
 use Rattle.model.proofs.Unused.{PartMisses, Unused, unused-named}
 

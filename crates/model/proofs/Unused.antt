@@ -1,17 +1,17 @@
 -- A system that is not in use: no enabled chain meets its place.
 use Prim.Native.Nat.{ℕ, _≤_, _<_}
-use mathlib.Core.Path.{_≡_, refl, sym, _∙_}
+use mathlib.Core.Path.{_≡_, sym}
 use mathlib.Core.List.{List, [], _∷_, _++_, map}
-use mathlib.Core.Bool.{Bool, true, false, _&&_, _||_}
+use mathlib.Core.Bool.{Bool, true, false, _||_}
 use native.Mathlib.Omega.{arith}
 use native.Mathlib.Decide.{decLt}
 use borrow.Author.Tests.{eqb-false}
 use lib.Dec.{eqb}
 use lib.ListN.{length, getD}
-use Rattle.model.specs.Types.{Kind, Ksd, Kst, Ksw, Ksb, Kld, Group, Operating, Orientational, Levelling, Enabled, OperatingPart, Single, Pair}
+use Rattle.model.specs.Types.{Kind, Ksd, Kst, Ksw, Ksb, Kld, Operating, Orientational, Levelling, Enabled, OperatingPart, Single, Pair}
 use Rattle.model.specs.Lists.{any}
 use Rattle.model.specs.Memory.{System, Memory, Ref, fixedRef, isUser, placeNamed}
-use Rattle.model.specs.Chain.{onChain, hop}
+use Rattle.model.specs.Chain.{onChain}
 use Rattle.model.specs.Use.{operatingPlaces, inGroup, enabledRefs, inUse, nameInUse}
 use Rattle.model.proofs.Basics.{or-false, any-none}
 use Rattle.model.proofs.Hops.{hop-zero, ring-free}
