@@ -20,6 +20,7 @@ use Rattle.model.specs.WellFormed.{memoryFine}
 use Rattle.model.specs.ImageClaims.{ReadsBack, AcceptedExactly, OneMemory}
 use Rattle.model.specs.Image.{edition, sevens, whole, signedCode, numbers, systemBytes, partNumbers, enabledBytes, image, Reader, _>>=_, give, fail, readWhole, readBytes, signedOf, kindOf, readSystem, readSystems, readPart, readMemory, imageOf?, accepted}
 use Rattle.model.proofs.Basics.{and-split, and-join, same-refl, same→≡}
+use Rattle.model.proofs.ImageLimits.{parts}
 use Rattle.model.proofs.Wholes.{read-whole}
 
 -- ---- the parts
@@ -98,13 +99,6 @@ read-memory m rest h = simp (steps, le-leb (length (m .systems)) 16 h, then-syst
 
 -- ---- accepted
 
--- a well-formed memory has no more systems than there is room for
-pub few-systems : (m : Memory) → memoryFine m ≡ true → length (m .systems) ≤ maxSystems
-unfolding memoryFine
-few-systems m e =
-    let f = and-split _ _ (and-split _ _ (and-split _ _ (and-split _ _ e .0) .0) .0) .0 in
-    leb-true (length (m .systems)) 16 f
-
 accept : (bs : List ℕ) (m : Memory) (rest : List ℕ) → readMemory bs ≡ some (m, rest) → accepted bs ≡ imageOf? bs m
 unfolding accepted
 accept bs m rest e = rw (e, accepted)
@@ -112,7 +106,7 @@ accept bs m rest e = rw (e, accepted)
 pub reads-back : ReadsBack
 unfolding imageOf?
 reads-back m h =
-    let e : readMemory (image m) ≡ some (m, []) = rw append-nil at (read-memory m [] (few-systems m h)) in
+    let e : readMemory (image m) ≡ some (m, []) = rw append-nil at (read-memory m [] (parts m h .few)) in
     accept (image m) m [] e ∙ rw (h, same-refl (image m))
 
 pub nothing : {A C : Type 0} {y : A} → _≡_ {A = Option A} none (some y) → C
