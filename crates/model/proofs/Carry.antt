@@ -1,17 +1,16 @@
 -- Two lists of systems that are alike along a chain, up to a renaming of places: the chain goes through the renaming, with the same steps, names and resultant.
-use Prim.Native.Nat.{ℕ, zero, suc, _≤_, _<_}
+use Prim.Native.Nat.{ℕ, zero, suc, _<_}
 use mathlib.Core.Path.{_≡_, refl, sym, ap, _∙_}
-use mathlib.Core.List.{List, [], _∷_, map}
+use mathlib.Core.List.{List, _∷_, map}
 use lib.Dec.{eqb}
 use lib.ListN.{length}
 use borrow.Author.Tests.{eq-eqb, eqb-true}
 use Rattle.model.specs.Types.{Group}
 use Rattle.model.specs.Lists.{table}
-use Rattle.model.specs.Pose.{Pose, followed}
-use Rattle.model.specs.Memory.{System, Memory, systemAt, nameOf}
+use Rattle.model.specs.Memory.{System, Memory, nameOf}
 use Rattle.model.specs.Use.{inGroup}
 use Rattle.model.specs.Chain.{predOf, hop, steps, chain, ownPose, poseOver, resultant}
-use Rattle.model.specs.Demand.{Held, held}
+use Rattle.model.specs.Demand.{held}
 use Rattle.model.proofs.Hops.{hop-last}
 use Rattle.model.proofs.Steps.{Ends, steps-first, steps-end, steps-before, chain-length}
 

@@ -17,11 +17,12 @@ use Rattle.model.specs.Use.{nameInUse}
 use Rattle.model.specs.Refusals.{wrongPred, otherType, atOrBefore, noRoom}
 use Rattle.model.specs.Effects.{put, firstPred, fresh, linked, withPred, withName}
 use Rattle.model.proofs.Basics.{and-split, and-join, or-false, true-false, ≡→same}
-use Rattle.model.proofs.Hops.{hop-next}
+use Rattle.model.proofs.Hops.{hop-zero, hop-next, ring-free}
+use Rattle.model.proofs.Steps.{off-path}
 use Rattle.model.proofs.Relink.{Misses}
 use Rattle.model.proofs.Fine.{Placed, ownFine, Fine, same-kind}
 use Rattle.model.proofs.Named.{place-stands, place-name, place-within, user-place, named-place}
-use Rattle.model.proofs.Unused.{Unused, unused-named, off-missed, zero-missed}
+use Rattle.model.proofs.Frames.{EachEnabled, unused-missed}
 use Rattle.model.proofs.Putting.{put-fine}
 
 -- ---- what a ladder's tests say
@@ -32,6 +33,11 @@ module _ (m : Memory) (fine : Fine m) where
   unfolding otherType
   kind-kept n k e u = sym (same-kind (userNamed m n .kind) k (not-false (sameKind (userNamed m n .kind) k) (rw u at e)))
 
+  -- number 11: no enabled chain meets the system of that name
+  pub not-in-use : (n : List ℕ) → isUser m n ≡ true → nameInUse m n ≡ false → EachEnabled (Misses (m .systems) (placeNamed (m .systems) n)) (m .enabled)
+  unfolding nameInUse
+  not-in-use n u e = unused-missed m fine (placeNamed (m .systems) n) (user-place m n u) (rw u at e)
+
   -- number 12: the chain of b, with b itself, does not meet a
   not-before : (a b : List ℕ) → atOrBefore m a b ≡ false → isUser m a ≡ true → Misses (m .systems) (placeNamed (m .systems) a) (named m b .place)
   unfolding atOrBefore
@@ -40,7 +46,7 @@ module _ (m : Memory) (fine : Fine m) where
       let pos = user-place m a u in
       let s = or-false (same a b) (onChain l (placeNamed l a) (named m b .place)) (rw u at e) in
       let np = named-place m b in
-      off-missed m fine (placeNamed l a) pos (named m b .place) (rw np (place-within l b)) (λ q. apart (sym np ∙ q) (s .0) pos) (s .1)
+      λ i. off-path l (named m b .place) (ring-free l (fine .ringless) (named m b .place) (rw np (place-within l b))) (placeNamed l a) i pos (λ q. apart (sym np ∙ q) (s .0) pos) (s .1)
     where
       apart : placeNamed (m .systems) b ≡ placeNamed (m .systems) a → same a b ≡ false → 0 < placeNamed (m .systems) a → ⊥
       apart q d pos =
@@ -57,8 +63,8 @@ module _ (m : Memory) (fine : Fine m) where
   first-placed Ksb h = fine .enabled .orientational h
   first-placed Kld h = fine .enabled .levelling h
 
-  first-missed : (a : ℕ) → 0 < a → Unused (m .systems) a (m .enabled) → (g : Group) → Misses (m .systems) a (firstPred (m .enabled) g)
-  first-missed a pos u Operating = zero-missed m fine a pos
+  first-missed : (a : ℕ) → 0 < a → EachEnabled (Misses (m .systems) a) (m .enabled) → (g : Group) → Misses (m .systems) a (firstPred (m .enabled) g)
+  first-missed a pos u Operating = λ i e. let z = hop-zero (m .systems) i in absurd (omega arith)
   first-missed a pos u Orientational = u .orientational
   first-missed a pos u Levelling = u .levelling
 
@@ -67,7 +73,7 @@ module _ (m : Memory) (fine : Fine m) where
     unfolding fresh
     define-fine own ten eleven thirteen =
         put-fine m fine (fresh m k n t v) own (first-placed k)
-        (λ u. (kind-kept n k ten u, first-missed (placeNamed (m .systems) n) (user-place m n u) (unused-named m fine n u eleven) (ofKind k .group)))
+        (λ u. (kind-kept n k ten u, first-missed (placeNamed (m .systems) n) (user-place m n u) (not-in-use n u eleven) (ofKind k .group)))
         thirteen
 
   -- ---- link

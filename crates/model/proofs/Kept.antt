@@ -2,13 +2,13 @@
 use Prim.Native.Nat.{ℕ, _≤_}
 use mathlib.Core.Path.{_≡_, refl, sym, ap, _∙_}
 use mathlib.Core.List.{List, [], _∷_}
-use mathlib.Core.Bool.{Bool, true, false, cond, not, _&&_, _||_}
+use mathlib.Core.Bool.{true, not, _&&_, _||_}
 use mathlib.Core.Option.{Option, none, some}
 use native.Mathlib.Omega.{arith}
 use borrow.Author.Tests.{leb-true, le-leb}
 use lib.Dec.{eqb}
 use Rattle.model.specs.Types.{Kind, Vec3, Turns}
-use Rattle.model.specs.Lists.{any, between, same}
+use Rattle.model.specs.Lists.{any, between}
 use Rattle.model.specs.Limits.{largestNumber}
 use Rattle.model.specs.Kinds.{ofKind}
 use Rattle.model.specs.Memory.{Memory, State, factory, started, placeNamed, userNamed}
@@ -18,7 +18,7 @@ use Rattle.model.specs.Use.{nameInUse}
 use Rattle.model.specs.Request.{Change, Reading, reading, unknown, malformed, beyond, asks, change, list, lastError, define, link, copy, remove, enable, setLevel, save, restore, reset}
 use Rattle.model.specs.Refusals.{first, absent, wrongPred, otherType, atOrBefore, noRoom, changeLadder, requestLadder, readingLadder}
 use Rattle.model.specs.Effects.{withVolatile, withError, withName, put, fresh, linked, removedAt, changed, next}
-use Rattle.model.specs.Image.{image, readMemory, imageOf?, accepted}
+use Rattle.model.specs.Image.{accepted}
 use Rattle.model.specs.Machine.{carriedOut, stepped, restart, startImage}
 use Rattle.model.specs.Trace.{Call, Line, line, again, called, afterCalls, afterLines}
 use Rattle.model.specs.Demand.{Start, factory-start, image-start, startState}
@@ -28,6 +28,7 @@ use Rattle.model.proofs.Open.{definitions-open}
 use Rattle.model.proofs.Ladder.{Clear, clear-of}
 use Rattle.model.proofs.Refusing.{by-case, restart-fine}
 use Rattle.model.proofs.Exact.{start-none, start-some}
+use Rattle.model.proofs.Image.{accepted-exactly}
 use Rattle.model.proofs.Fine.{ownFine, errorFine, Fine, FineState, fine-of, fine-from, state-of, state-from}
 use Rattle.model.proofs.Named.{present-user}
 use Rattle.model.proofs.Reading.{definitionLegal, changeLegal, legal, reading-legal}
@@ -127,24 +128,12 @@ module _ (st : State) (w : wellFormed st ≡ true) where
 
 -- ---- the starts
 
-accepted-fine : (bytes : List ℕ) (m : Memory) → accepted bytes ≡ some m → memoryFine m ≡ true
-unfolding accepted imageOf?
-accepted-fine bytes m e = read (readMemory bytes) e
-  where
-    tested : (k : Memory) (t : Bool) → memoryFine k && same (image k) bytes ≡ t → cond t (some k) none ≡ some m → memoryFine m ≡ true
-    tested k true f q = let same-memory : k ≡ m = cc in rw (← same-memory) (and-split (memoryFine k) (same (image k) bytes) f .0)
-    tested k false f q = let z : _≡_ {A = ℕ} 0 1 = cc in absurd (omega arith)
-
-    read : (o : Option (Memory × List ℕ)) → elim o [ none ↦ none | some p ↦ imageOf? bytes (p .0) ] ≡ some m → memoryFine m ≡ true
-    read none q = let z : _≡_ {A = ℕ} 0 1 = cc in absurd (omega arith)
-    read (some p) q = tested (p .0) (memoryFine (p .0) && same (image (p .0)) bytes) refl q
-
 image-kept : (bytes : List ℕ) → wellFormed (startImage bytes .state) ≡ true
 image-kept bytes = go (accepted bytes) refl
   where
     go : (o : Option Memory) → accepted bytes ≡ o → wellFormed (startImage bytes .state) ≡ true
     go none e = rw (start-none bytes e) (started-fine factory factory-fine)
-    go (some m) e = rw (start-some bytes m e) (started-fine m (accepted-fine bytes m e))
+    go (some m) e = rw (start-some bytes m e) (started-fine m (accepted-exactly bytes m .0 e .0))
 
 start-kept : (start : Start) → wellFormed (startState start) ≡ true
 unfolding startState

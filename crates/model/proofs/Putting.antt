@@ -15,9 +15,8 @@ use Rattle.model.specs.Refusals.{noRoom}
 use Rattle.model.specs.Effects.{withSystems, put}
 use Rattle.model.proofs.Basics.{either}
 use Rattle.model.proofs.Relink.{Misses, replaced-other, replaced-same, replaced-no-ring, added-length, added-old, added-new, added-no-ring}
-use Rattle.model.proofs.Fine.{Stands, Placed, ownFine, PartPlaced, EnabledPlaced, Systems, Fine, preds-within, blank-beyond}
+use Rattle.model.proofs.Fine.{Stands, Placed, ownFine, PartPlaced, EnabledPlaced, Systems, Fine, preds-within, blank-beyond, placed-within}
 use Rattle.model.proofs.Named.{place-stands, place-name, place-missing, user-place, user-none}
-use Rattle.model.proofs.Unused.{placed-within}
 
 -- ---- a list that has every system of another, at its place and of its type
 

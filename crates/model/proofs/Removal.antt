@@ -173,7 +173,7 @@ module _ (l : List System) (a : ℕ) (pos : 0 < a) (there : a ≤ length l) wher
   -- ---- no ring
 
   module _ (places : InRange l) (free : noRing l ≡ true) where
-    pred-of-gone : predOf l a ≡ systemAt l a .pred
+    pub pred-of-gone : predOf l a ≡ systemAt l a .pred
     unfolding predOf
     pred-of-gone = go a pos
       where

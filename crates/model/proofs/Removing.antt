@@ -15,7 +15,8 @@ use Rattle.model.proofs.Relink.{Misses}
 use Rattle.model.proofs.Removal.{old, old-low, old-high, old-mended, mended-old, mended-zero, mended-gone, mended-pred, mended-fixed, mended-in-range, without, without-length, removed-at, not-its-own, removed-no-ring}
 use Rattle.model.proofs.Fine.{Stands, Placed, PartPlaced, Systems, Fine, preds-within}
 use Rattle.model.proofs.Named.{place-stands, user-place}
-use Rattle.model.proofs.Unused.{PartMisses, Unused, unused-named}
+use Rattle.model.proofs.Frames.{PartHas, EachEnabled}
+use Rattle.model.proofs.Edits.{not-in-use}
 
 module _ (m : Memory) (fine : Fine m) (a : ℕ) (at : Stands (m .systems) a) where
   abbrev l : List System
@@ -81,7 +82,7 @@ module _ (m : Memory) (fine : Fine m) (a : ℕ) (at : Stands (m .systems) a) whe
       go (yes b) = b
       go (no b) = let z = mended-fixed a p (at .0) q (off 0) (omega arith) in absurd (omega arith)
 
-  part-mended : (o : OperatingPart) → PartMisses l a o → PartPlaced l o → PartPlaced (without l a) (mendedPart (mended a p) o)
+  part-mended : (o : OperatingPart) → PartHas (Misses l a) o → PartPlaced l o → PartPlaced (without l a) (mendedPart (mended a p) o)
   unfolding mendedPart
   part-mended (Single q) off f = carried Ksd q f
   part-mended (Pair w t) off f = (carried Ksw w (f .0), carried Kst t (f .1), go (decLt 0 w))
@@ -90,7 +91,7 @@ module _ (m : Memory) (fine : Fine m) (a : ℕ) (at : Stands (m .systems) a) whe
       go (yes h) = omega (arith, stays w (off .0) h)
       go (no h) = omega (arith, stays t (off .1) (omega (arith, f .2)))
 
-  pub removed-fine : Unused l a (m .enabled) → Fine (removedAt m a)
+  pub removed-fine : EachEnabled (Misses l a) (m .enabled) → Fine (removedAt m a)
   unfolding removedAt
   removed-fine u =
       record {
@@ -105,4 +106,4 @@ module _ (m : Memory) (fine : Fine m) (a : ℕ) (at : Stands (m .systems) a) whe
 
 -- by name
 pub remove-fine : (m : Memory) → Fine m → (a : List ℕ) → isUser m a ≡ true → nameInUse m a ≡ false → Fine (removedAt m (placeNamed (m .systems) a))
-remove-fine m f a user eleven = removed-fine m f (placeNamed (m .systems) a) (place-stands (m .systems) a (user-place m a user)) (unused-named m f a user eleven)
+remove-fine m f a user eleven = removed-fine m f (placeNamed (m .systems) a) (place-stands (m .systems) a (user-place m a user)) (not-in-use m f a user eleven)

@@ -18,6 +18,7 @@ pub mod Effects
 pub mod Reply
 pub mod Refusals
 pub mod Image
+pub mod ImageClaims
 pub mod Machine
 pub mod Trace
 pub mod Demand
