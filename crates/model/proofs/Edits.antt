@@ -2,25 +2,24 @@
 use Prim.Native.Nat.{ℕ, zero, suc, _<_}
 use mathlib.Core.Path.{_≡_, refl, sym, ap, _∙_}
 use mathlib.Core.List.{List}
-use mathlib.Core.Bool.{true, false, not, _&&_}
+use mathlib.Core.Bool.{true, false}
 use native.Mathlib.Omega.{arith}
 use borrow.Author.Tests.{not-false, ne-eqb}
 use lib.Dec.{eqb}
 use Rattle.model.specs.Types.{Kind, Ksd, Kst, Ksw, Ksb, Kld, Group, Operating, Orientational, Levelling, Vec3, Turns}
 use Rattle.model.specs.Lists.{same}
 use Rattle.model.specs.Kinds.{ofKind, sameKind}
-use Rattle.model.specs.Memory.{System, Memory, systemAt, isUser, placeNamed, named, userNamed}
+use Rattle.model.specs.Memory.{Memory, systemAt, isUser, placeNamed, named, userNamed}
 use Rattle.model.specs.Chain.{predOf, onChain}
 use Rattle.model.specs.Words.{legalName, reserved}
-use Rattle.model.specs.WellFormed.{offsetsFine, turnsFine}
 use Rattle.model.specs.Use.{nameInUse}
 use Rattle.model.specs.Refusals.{wrongPred, otherType, atOrBefore, noRoom}
 use Rattle.model.specs.Effects.{put, firstPred, fresh, linked, withPred, withName}
-use Rattle.model.proofs.Basics.{and-split, and-join, or-false, true-false, ≡→same}
+use Rattle.model.proofs.Basics.{or-false, true-false, ≡→same}
 use Rattle.model.proofs.Hops.{hop-zero, hop-next, ring-free}
 use Rattle.model.proofs.Steps.{off-path}
 use Rattle.model.proofs.Relink.{Misses}
-use Rattle.model.proofs.Fine.{Placed, ownFine, Fine, same-kind}
+use Rattle.model.proofs.Fine.{Placed, ownFine, Own, own-of, own-from, Fine, same-kind}
 use Rattle.model.proofs.Named.{place-stands, place-name, place-within, user-place, named-place}
 use Rattle.model.proofs.Frames.{EachEnabled, unused-missed}
 use Rattle.model.proofs.Putting.{put-fine}
@@ -108,18 +107,12 @@ module _ (m : Memory) (fine : Fine m) where
       pred-at (suc i) = refl
 
   module _ (s d : List ℕ) (user : isUser m s ≡ true) where
-    own-copied : (x : System) → ownFine x ≡ true → legalName d ≡ true → reserved d ≡ false → ownFine (withName x d) ≡ true
-    own-copied x own legal free =
-        let a = and-split (legalName (x .name) && not (reserved (x .name)) && offsetsFine (x .offset) && turnsFine (x .turns)) _ own in
-        let b = and-split (legalName (x .name) && not (reserved (x .name)) && offsetsFine (x .offset)) (turnsFine (x .turns)) (a .0) in
-        let c = and-split (legalName (x .name) && not (reserved (x .name))) (offsetsFine (x .offset)) (b .0) in
-        and-join (and-join (and-join (and-join legal (ap not free)) (c .1)) (b .1)) (a .1)
-
     pub copy-fine : legalName d ≡ true → reserved d ≡ false → otherType m d (userNamed m s .kind) ≡ false → atOrBefore m d s ≡ false → noRoom m d ≡ false → Fine (put m (withName (userNamed m s) d))
     copy-fine legal eight ten twelve thirteen =
-        let pos = user-place m s user in
+        let o = own-of (userNamed m s) (fine .systems .own (placeNamed (m .systems) s) (place-stands (m .systems) s (user-place m s user))) in
+        let copied : Own (withName (userNamed m s) d) = record { name = legal; free = eight; offset = o .offset; turns = o .turns; flat = o .flat } in
         let np = named-place m s in
-        put-fine m fine (withName (userNamed m s) d) (own-copied (userNamed m s) (fine .systems .own (placeNamed (m .systems) s) (place-stands (m .systems) s pos)) legal eight)
+        put-fine m fine (withName (userNamed m s) d) (own-from (withName (userNamed m s) d) copied)
         (fine .systems .preds (placeNamed (m .systems) s))
         (λ u. (kind-kept d (userNamed m s .kind) ten u, pred-missed (placeNamed (m .systems) d) (placeNamed (m .systems) s) (rw np at (not-before d s twelve u))))
         thirteen

@@ -76,6 +76,26 @@ ownFine s =
     legalName (s .name) && not (reserved (s .name)) && offsetsFine (s .offset) && turnsFine (s .turns)
     && (not (ofKind (s .kind) .turnsOnly) || noOffset (s .offset))
 
+-- the same, part by part
+pub record Own (s : System) : Type 0 where
+  pub name : legalName (s .name) ≡ true
+  pub free : reserved (s .name) ≡ false
+  pub offset : offsetsFine (s .offset) ≡ true
+  pub turns : turnsFine (s .turns) ≡ true
+  pub flat : not (ofKind (s .kind) .turnsOnly) || noOffset (s .offset) ≡ true
+
+pub own-of : (s : System) → ownFine s ≡ true → Own s
+own-of s f =
+    let named = legalName (s .name) && not (reserved (s .name)) in
+    let a = and-split (named && offsetsFine (s .offset) && turnsFine (s .turns)) (not (ofKind (s .kind) .turnsOnly) || noOffset (s .offset)) f in
+    let b = and-split (named && offsetsFine (s .offset)) (turnsFine (s .turns)) (a .0) in
+    let c = and-split named (offsetsFine (s .offset)) (b .0) in
+    let d = and-split (legalName (s .name)) (not (reserved (s .name))) (c .0) in
+    record { name = d .0; free = not-true (reserved (s .name)) (d .1); offset = c .1; turns = b .1; flat = a .1 }
+
+pub own-from : (s : System) → Own s → ownFine s ≡ true
+own-from s o = and-join (and-join (and-join (and-join (o .name) (ap not (o .free))) (o .offset)) (o .turns)) (o .flat)
+
 abbrev pub PartPlaced : List System → OperatingPart → Type 0
 PartPlaced l (Single p) = Placed l Ksd p
 PartPlaced l (Pair w t) = Placed l Ksw w × Placed l Kst t × (0 < w + t)

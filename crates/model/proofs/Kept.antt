@@ -1,8 +1,8 @@
 -- Well-formedness is kept by every call, and so by every list of calls from either start.
 use Prim.Native.Nat.{ℕ, _≤_}
-use mathlib.Core.Path.{_≡_, refl, sym, ap, _∙_}
+use mathlib.Core.Path.{_≡_, refl, sym, _∙_}
 use mathlib.Core.List.{List, [], _∷_}
-use mathlib.Core.Bool.{true, not, _&&_, _||_}
+use mathlib.Core.Bool.{Bool, true, false, _||_}
 use mathlib.Core.Option.{Option, none, some}
 use native.Mathlib.Omega.{arith}
 use borrow.Author.Tests.{leb-true, le-leb}
@@ -10,28 +10,26 @@ use lib.Dec.{eqb}
 use Rattle.model.specs.Types.{Kind, Vec3, Turns}
 use Rattle.model.specs.Lists.{any, between}
 use Rattle.model.specs.Limits.{largestNumber}
-use Rattle.model.specs.Kinds.{ofKind}
 use Rattle.model.specs.Memory.{Memory, State, factory, started, placeNamed, userNamed}
 use Rattle.model.specs.Words.{legalName, reserved}
-use Rattle.model.specs.WellFormed.{memoryFine, wellFormed, offsetsFine, turnsFine, noOffset}
-use Rattle.model.specs.Use.{nameInUse}
+use Rattle.model.specs.WellFormed.{memoryFine, wellFormed}
 use Rattle.model.specs.Request.{Change, Reading, reading, unknown, malformed, beyond, asks, change, list, lastError, define, link, copy, remove, enable, setLevel, save, restore, reset}
-use Rattle.model.specs.Refusals.{first, absent, wrongPred, otherType, atOrBefore, noRoom, changeLadder, requestLadder, readingLadder}
+use Rattle.model.specs.Refusals.{first, absent, changeLadder, requestLadder, readingLadder}
 use Rattle.model.specs.Effects.{withVolatile, withError, withName, put, fresh, linked, removedAt, changed, next}
 use Rattle.model.specs.Image.{accepted}
 use Rattle.model.specs.Machine.{carriedOut, stepped, restart, startImage}
 use Rattle.model.specs.Trace.{Call, Line, line, again, called, afterCalls, afterLines}
 use Rattle.model.specs.Demand.{Start, factory-start, image-start, startState}
-use Rattle.model.specs.Claims.{applies, WellFormedKept}
+use Rattle.model.specs.Claims.{applies, LegalDefinition, WellFormedKept}
 use Rattle.model.proofs.Basics.{and-split, and-join, or-false, or-right, true-false}
 use Rattle.model.proofs.Open.{definitions-open}
 use Rattle.model.proofs.Ladder.{Clear, clear-of}
 use Rattle.model.proofs.Refusing.{by-case, restart-fine}
 use Rattle.model.proofs.Exact.{start-none, start-some}
 use Rattle.model.proofs.Image.{accepted-exactly}
-use Rattle.model.proofs.Fine.{ownFine, errorFine, Fine, FineState, fine-of, fine-from, state-of, state-from}
+use Rattle.model.proofs.Fine.{Own, own-from, errorFine, Fine, FineState, fine-of, fine-from, state-of, state-from}
 use Rattle.model.proofs.Named.{present-user}
-use Rattle.model.proofs.Reading.{definitionLegal, changeLegal, legal, reading-legal}
+use Rattle.model.proofs.Reading.{changeLegal, definition-parts, legal, reading-legal}
 use Rattle.model.proofs.Edits.{define-fine, link-fine, copy-fine}
 use Rattle.model.proofs.Removing.{remove-fine}
 use Rattle.model.proofs.Enabling.{enable-fine}
@@ -42,6 +40,10 @@ factory-fine = refl
 
 started-fine : (m : Memory) → memoryFine m ≡ true → wellFormed (started m) ≡ true
 started-fine m f = state-from (started m) (record { volatile = f; permanent = f; level = omega arith; error = refl })
+
+-- the condition of a rung that does not apply
+rung : {c : Bool} (rest : Bool) → c || rest ≡ false → c ≡ false
+rung {c} rest e = or-false c rest e .0
 
 -- ---- each change, under what its ladder has ruled out
 
@@ -61,38 +63,34 @@ module _ (st : State) (w : wellFormed st ≡ true) where
   with-error : (n : ℕ) → errorFine n ≡ true → wellFormed (withError st n) ≡ true
   with-error n f = state-from (withError st n) (record { volatile = parts .volatile; permanent = parts .permanent; level = parts .level; error = f })
 
-  define-kept : (k : Kind) (n : List ℕ) (t : Vec3) (u : Turns) → definitionLegal k n t u ≡ true → Clear (changeLadder st m (define k n t u)) → memoryFine (put m (fresh m k n t u)) ≡ true
-  unfolding changeLadder applies any fresh
-  define-kept k n t u legal off =
-      fine-from _ (define-fine m fine k n t u own (or-false (otherType m n k) _ (off 10) .0) (or-false (nameInUse m n) _ (off 11) .0) (or-false (noRoom m n) _ (off 13) .0))
-    where
-      own : ownFine (fresh m k n t u) ≡ true
-      own =
-          let a = and-split (legalName n && offsetsFine t && turnsFine u) (not (ofKind k .turnsOnly) || noOffset t) legal in
-          let b = and-split (legalName n && offsetsFine t) (turnsFine u) (a .0) in
-          let c = and-split (legalName n) (offsetsFine t) (b .0) in
-          and-join (and-join (and-join (and-join (c .0) (ap not (or-false (reserved n) _ (off 8) .0))) (c .1)) (b .1)) (a .1)
+  module _ (k : Kind) (n : List ℕ) (t : Vec3) (u : Turns) where
+    define-kept : LegalDefinition k n t u → Clear (changeLadder st m (define k n t u)) → memoryFine (put m (fresh m k n t u)) ≡ true
+    unfolding changeLadder applies any fresh
+    define-kept legal off =
+        let own : Own (fresh m k n t u) =
+        record { name = legal .name; free = rung _ (off 8); offset = legal .offsets; turns = legal .turns; flat = legal .flat } in
+        fine-from _ (define-fine m fine k n t u (own-from (fresh m k n t u) own) (rung _ (off 10)) (rung _ (off 11)) (rung _ (off 13)))
 
   link-kept : (a b : List ℕ) → Clear (changeLadder st m (link a b)) → memoryFine (linked m a b) ≡ true
   unfolding changeLadder applies any
   link-kept a b off =
-      let seven = or-false (absent m a) (absent m b) (or-false (absent m a || absent m b) _ (off 7) .0) in
-      fine-from _ (link-fine m fine a b (present-user m a (seven .0) (or-false (reserved a) _ (off 8) .0)) (or-false (wrongPred m a b) _ (off 10) .0) (or-false (atOrBefore m a b) _ (off 12) .0))
+      let user = present-user m a (rung (absent m b) (rung _ (off 7))) (rung _ (off 8)) in
+      fine-from _ (link-fine m fine a b user (rung _ (off 10)) (rung _ (off 12)))
 
   copy-kept : (s d : List ℕ) → legalName d ≡ true → Clear (changeLadder st m (copy s d)) → memoryFine (put m (withName (userNamed m s) d)) ≡ true
   unfolding changeLadder applies any
   copy-kept s d legal off =
-      let eight = or-false (reserved s) (reserved d) (or-false (reserved s || reserved d) _ (off 8) .0) in
-      fine-from _ (copy-fine m fine s d (present-user m s (or-false (absent m s) _ (off 7) .0) (eight .0)) legal (eight .1) (or-false (otherType m d (userNamed m s .kind)) _ (off 10) .0) (or-false (atOrBefore m d s) _ (off 12) .0) (or-false (noRoom m d) _ (off 13) .0))
+      let eight = or-false (reserved s) (reserved d) (rung _ (off 8)) in
+      let user = present-user m s (rung _ (off 7)) (eight .0) in
+      fine-from _ (copy-fine m fine s d user legal (eight .1) (rung _ (off 10)) (rung _ (off 12)) (rung _ (off 13)))
 
   remove-kept : (a : List ℕ) → Clear (changeLadder st m (remove a)) → memoryFine (removedAt m (placeNamed (m .systems) a)) ≡ true
   unfolding changeLadder applies any
-  remove-kept a off =
-      fine-from _ (remove-fine m fine a (present-user m a (or-false (absent m a) _ (off 7) .0) (or-false (reserved a) _ (off 8) .0)) (or-false (nameInUse m a) _ (off 11) .0))
+  remove-kept a off = fine-from _ (remove-fine m fine a (present-user m a (rung _ (off 7)) (rung _ (off 8))) (rung _ (off 11)))
 
   pub change-kept : (c : Change) → changeLegal c ≡ true → Clear (changeLadder st m c) → wellFormed (changed st m c) ≡ true
   unfolding changed changeLegal
-  change-kept (define k n t u) l off = with-volatile _ (define-kept k n t u l off)
+  change-kept (define k n t u) l off = with-volatile _ (define-kept k n t u (definition-parts k n t u l) off)
   change-kept (link a b) l off = with-volatile _ (link-kept a b off)
   change-kept (copy s d) l off = with-volatile _ (copy-kept s d (and-split (legalName s) (legalName d) l .1) off)
   change-kept (remove a) l off = with-volatile _ (remove-kept a off)

@@ -19,6 +19,7 @@ use Rattle.model.specs.Kinds.{ofKind}
 use Rattle.model.specs.Words.{words, legalName, number, angle?, quarters}
 use Rattle.model.specs.WellFormed.{offsetsFine, turnsFine, noOffset}
 use Rattle.model.specs.Request.{Change, Query, Reading, Command, Values, reading, unknown, malformed, beyond, asks, change, list, lastError, define, link, copy, remove, enable, setLevel, save, restore, reset, enabledOnes, systemsAll, links, resultants, resultantOf, axis, firstAxis, mayCome, pairs, noValues, given, inRange, offsetsOf, turnsOf, definition, names?, word, oneName, twoNames, sameWords, fixedWords, levelWords, resultantWords, commands, readBy, readWords}
+use Rattle.model.specs.Claims.{LegalDefinition, AsksNothingIllegal}
 use Rattle.model.proofs.Basics.{and-split, and-join, or-left, or-right, either, all-at}
 
 -- ---- what is legal
@@ -219,3 +220,25 @@ reading-legal line = go (words line)
     go : (ws : List (List ℕ)) → legal (readWords ws) ≡ true
     go [] = refl
     go (w ∷ args) = by-legal commands commands-read w args
+
+-- ---- the claim
+
+pub definition-parts : (k : Kind) (n : List ℕ) (t : Vec3) (u : Turns) → definitionLegal k n t u ≡ true → LegalDefinition k n t u
+definition-parts k n t u l =
+    let a = and-split (legalName n && offsetsFine t && turnsFine u) (not (ofKind k .turnsOnly) || noOffset t) l in
+    let b = and-split (legalName n && offsetsFine t) (turnsFine u) (a .0) in
+    let c = and-split (legalName n) (offsetsFine t) (b .0) in
+    record { name = c .0; offsets = c .1; turns = b .1; flat = a .1 }
+
+asked-legal : (line : List ℕ) (c : Change) → reading line ≡ asks (change c) → changeLegal c ≡ true
+unfolding legal
+asked-legal line c e = rw e at (reading-legal line)
+
+pub asks-nothing-illegal : AsksNothingIllegal
+unfolding changeLegal
+asks-nothing-illegal =
+    record {
+      definitions = λ line k n t u e. definition-parts k n t u (asked-legal line (define k n t u) e);
+      copies = λ line s d e. and-split (legalName s) (legalName d) (asked-legal line (copy s d) e) .1;
+      levels = λ line n e. leb-true n 1 (asked-legal line (setLevel n) e);
+    }
