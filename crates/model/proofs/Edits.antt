@@ -45,7 +45,8 @@ module _ (m : Memory) (fine : Fine m) where
       let pos = user-place m a u in
       let s = or-false (same a b) (onChain l (placeNamed l a) (named m b .place)) (rw u at e) in
       let np = named-place m b in
-      λ i. off-path l (named m b .place) (ring-free l (fine .ringless) (named m b .place) (rw np (place-within l b))) (placeNamed l a) i pos (λ q. apart (sym np ∙ q) (s .0) pos) (s .1)
+      let ends = ring-free l (fine .ringless) (named m b .place) (rw np (place-within l b)) in
+      λ i. off-path l (named m b .place) ends (placeNamed l a) i pos (λ q. apart (sym np ∙ q) (s .0) pos) (s .1)
     where
       apart : placeNamed (m .systems) b ≡ placeNamed (m .systems) a → same a b ≡ false → 0 < placeNamed (m .systems) a → ⊥
       apart q d pos =
@@ -68,7 +69,8 @@ module _ (m : Memory) (fine : Fine m) where
   first-missed a pos u Levelling = u .levelling
 
   module _ (k : Kind) (n : List ℕ) (t : Vec3) (v : Turns) where
-    pub define-fine : ownFine (fresh m k n t v) ≡ true → otherType m n k ≡ false → nameInUse m n ≡ false → noRoom m n ≡ false → Fine (put m (fresh m k n t v))
+    pub define-fine :
+        ownFine (fresh m k n t v) ≡ true → otherType m n k ≡ false → nameInUse m n ≡ false → noRoom m n ≡ false → Fine (put m (fresh m k n t v))
     unfolding fresh
     define-fine own ten eleven thirteen =
         put-fine m fine (fresh m k n t v) own (first-placed k)
@@ -91,7 +93,8 @@ module _ (m : Memory) (fine : Fine m) where
     link-fine ten twelve =
         let pos = user-place m a user in
         let na = place-name (m .systems) a pos in
-        put-fine m fine (withPred (userNamed m a) (named m b .place)) (fine .systems .own (placeNamed (m .systems) a) (place-stands (m .systems) a pos)) (right-pred ten)
+        let own = fine .systems .own (placeNamed (m .systems) a) (place-stands (m .systems) a pos) in
+        put-fine m fine (withPred (userNamed m a) (named m b .place)) own (right-pred ten)
         (λ u. rw na (refl, not-before a b twelve user))
         (rw (na, user))
 
@@ -107,7 +110,9 @@ module _ (m : Memory) (fine : Fine m) where
       pred-at (suc i) = refl
 
   module _ (s d : List ℕ) (user : isUser m s ≡ true) where
-    pub copy-fine : legalName d ≡ true → reserved d ≡ false → otherType m d (userNamed m s .kind) ≡ false → atOrBefore m d s ≡ false → noRoom m d ≡ false → Fine (put m (withName (userNamed m s) d))
+    pub copy-fine :
+        legalName d ≡ true → reserved d ≡ false → otherType m d (userNamed m s .kind) ≡ false → atOrBefore m d s ≡ false → noRoom m d ≡ false →
+        Fine (put m (withName (userNamed m s) d))
     copy-fine legal eight ten twelve thirteen =
         let o = own-of (userNamed m s) (fine .systems .own (placeNamed (m .systems) s) (place-stands (m .systems) s (user-place m s user))) in
         let copied : Own (withName (userNamed m s) d) = record { name = legal; free = eight; offset = o .offset; turns = o .turns; flat = o .flat } in

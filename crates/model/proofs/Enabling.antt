@@ -52,7 +52,9 @@ module _ (m : Memory) (fine : Fine m) (level : ℕ) where
   enabling-placed r h =
       let l = m .systems in
       ⊎-elim (λ z. rw z (fixed-enabled l (m .enabled) (fine .enabled) level (r .group)))
-      (λ z. let n = eqb-false (r .place) 0 z in rw z (user-enabled l (m .enabled) (fine .enabled) (systemAt l (r .place) .kind) (r .place) (omega arith) (λ p. (h, refl))))
+      (λ z.
+      let n = eqb-false (r .place) 0 z in
+      rw z (user-enabled l (m .enabled) (fine .enabled) (systemAt l (r .place) .kind) (r .place) (omega arith) (λ p. (h, refl))))
       (either (eqb (r .place) 0))
 
   pub enable-fine : (a : List ℕ) → Fine (record { systems = m .systems; enabled = enabling level m (named m a) })

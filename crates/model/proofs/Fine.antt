@@ -155,7 +155,8 @@ differ-from : (l : List System) → ((i j : ℕ) → i < length l → j < length
 unfolding namesDiffer namesake
 differ-from [] f = refl
 differ-from (s ∷ l) f =
-    and-join (ap not (no-namesake (either (any (namesake s) l)))) (differ-from l (λ i j h g e. let q = f (suc i) (suc j) (omega arith) (omega arith) e in omega arith))
+    and-join (ap not (no-namesake (either (any (namesake s) l))))
+    (differ-from l (λ i j h g e. let q = f (suc i) (suc j) (omega arith) (omega arith) e in omega arith))
   where
     no-namesake : (any (namesake s) l ≡ true) ⊎ (any (namesake s) l ≡ false) → any (namesake s) l ≡ false
     no-namesake (inl e) =
@@ -207,8 +208,11 @@ module _ (l : List System) where
   part-of (Single p) e = placed-of l Ksd p e
   part-of (Pair w t) e =
       let a = and-split (isKind l Ksw w && isKind l Kst t) (ltb 0 w || ltb 0 t) e in
-      let b = and-split (isKind l Ksw w) (isKind l Kst t) (a .0) in
-      (placed-of l Ksw w (b .0), placed-of l Kst t (b .1), ⊎-elim (λ h. omega (arith, ltb-true 0 w h)) (λ h. omega (arith, ltb-true 0 t h)) (or-split (ltb 0 w) (ltb 0 t) (a .1)))
+      let b = and-split (isKind l Ksw w) (isKind l Kst t) (a .0) in (
+        placed-of l Ksw w (b .0),
+        placed-of l Kst t (b .1),
+        ⊎-elim (λ h. omega (arith, ltb-true 0 w h)) (λ h. omega (arith, ltb-true 0 t h)) (or-split (ltb 0 w) (ltb 0 t) (a .1)),
+      )
 
   part-from : (o : OperatingPart) → PartPlaced l o → operatingFine l o ≡ true
   unfolding operatingFine
@@ -234,7 +238,8 @@ module _ (l : List System) where
     pub enabled-from : EnabledPlaced l e → enabledFine l e ≡ true
     unfolding enabledFine
     enabled-from p =
-        and-join (and-join (part-from (e .operating) (p .operating)) (placed-from l Ksb (e .orientational) (p .orientational))) (placed-from l Kld (e .levelling) (p .levelling))
+        and-join (and-join (part-from (e .operating) (p .operating)) (placed-from l Ksb (e .orientational) (p .orientational)))
+        (placed-from l Kld (e .levelling) (p .levelling))
 
 -- ---- a memory
 

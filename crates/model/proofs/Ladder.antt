@@ -177,5 +177,6 @@ module _ (st : State) (line b : List ℕ) where
   pub clear-of : refusal st line b ≡ 0 → Clear (readingLadder st (reading line))
   unfolding refusal ladder applies any
   clear-of z n =
-      let a = or-false (eqb n 2 && short b) (any (λ (r : Rung). eqb n (r .0) && r .1) ((3, unreadable line) ∷ readingLadder st (reading line))) (none-applies (ladder st line b) 1 ladder-ascends z n) in
+      let from-three = applies n ((3, unreadable line) ∷ readingLadder st (reading line)) in
+      let a = or-false (eqb n 2 && short b) from-three (none-applies (ladder st line b) 1 ladder-ascends z n) in
       or-false (eqb n 3 && unreadable line) (applies n (readingLadder st (reading line))) (a .1) .1

@@ -120,7 +120,9 @@ module _ (k : Kind) (n : List ℕ) (vs : Values) where
       few i g = le-leb (quarters (given vs i)) 3 (quarters-few (given vs i) g)
 
       turns-only : (ofKind k .turnsOnly ≡ true) ⊎ (ofKind k .turnsOnly ≡ false) → not (ofKind k .turnsOnly) || noOffset (offsetsOf vs) ≡ true
-      turns-only (inl t) = let f = offset-given (only t) in or-right (not (ofKind k .turnsOnly)) (noOffset (offsetsOf vs)) (rw (f 0 (omega arith), f 1 (omega arith), f 2 (omega arith)))
+      turns-only (inl t) =
+          let f = offset-given (only t) in
+          or-right (not (ofKind k .turnsOnly)) (noOffset (offsetsOf vs)) (rw (f 0 (omega arith), f 1 (omega arith), f 2 (omega arith)))
       turns-only (inr t) = or-left (not (ofKind k .turnsOnly)) (noOffset (offsetsOf vs)) (ap not t)
 
 no-values : NoOffsets noValues
@@ -162,10 +164,13 @@ one-legal : (make : List ℕ → Reading) → ((a : List ℕ) → legalName a �
 unfolding oneName legal
 one-legal make f args = ⊎-elim (λ e. rw e (f (word args 0) (name-at 1 args e 0 (omega arith)))) (λ e. rw e) (either (names? 1 args))
 
-two-legal : (make : List ℕ → List ℕ → Reading) → ((a b : List ℕ) → legalName a && legalName b ≡ true → legal (make a b) ≡ true) → (args : List (List ℕ)) → legal (twoNames make args) ≡ true
+two-legal : (make : List ℕ → List ℕ → Reading) → ((a b : List ℕ) → legalName a && legalName b ≡ true → legal (make a b) ≡ true) →
+    (args : List (List ℕ)) → legal (twoNames make args) ≡ true
 unfolding twoNames legal
 two-legal make f args =
-    ⊎-elim (λ e. rw e (f (word args 0) (word args 1) (and-join (name-at 2 args e 0 (omega arith)) (name-at 2 args e 1 (omega arith))))) (λ e. rw e) (either (names? 2 args))
+    ⊎-elim (λ e. rw e (f (word args 0) (word args 1) (and-join (name-at 2 args e 0 (omega arith)) (name-at 2 args e 1 (omega arith)))))
+    (λ e. rw e)
+    (either (names? 2 args))
 
 fixed-legal : (expected : List (List ℕ)) (r : Reading) → legal r ≡ true → (args : List (List ℕ)) → legal (fixedWords expected r args) ≡ true
 unfolding fixedWords legal
@@ -173,7 +178,10 @@ fixed-legal expected r f args = ⊎-elim (λ e. rw e f) (λ e. rw e) (either (sa
 
 level-legal : (args : List (List ℕ)) → legal (levelWords args) ≡ true
 unfolding levelWords legal changeLegal
-level-legal args = ⊎-elim (λ e. rw e) (λ e. rw e (fixed-legal (ascii "1" ∷ ascii "ADVANCED" ∷ []) (asks (change (setLevel 1))) refl args)) (either (sameWords (ascii "0" ∷ []) args))
+level-legal args =
+    ⊎-elim (λ e. rw e)
+    (λ e. rw e (fixed-legal (ascii "1" ∷ ascii "ADVANCED" ∷ []) (asks (change (setLevel 1))) refl args))
+    (either (sameWords (ascii "0" ∷ []) args))
 
 resultant-legal : (args : List (List ℕ)) → legal (resultantWords args) ≡ true
 unfolding resultantWords legal queryLegal

@@ -66,7 +66,9 @@ module _ (m : Memory) (fine : Fine m) (a : ℕ) (at : Stands (m .systems) a) whe
         few = omega (arith, without-length l a (at .0) (at .1), fine .systems .few);
         own = λ x h. rw (removed-at l a (at .0) (at .1) x) (fine .systems .own (old a x) (old-stands x h));
         preds = λ x. rw (removed-at l a (at .0) (at .1) x) (carried (systemAt l (old a x) .kind) (systemAt l (old a x) .pred) (fine .systems .preds (old a x)));
-        differ = λ i j h g e. sym (mended-old a p (at .0) i) ∙ ap (mended a p) (fine .systems .differ (old a i) (old a j) (old-stands i h) (old-stands j g) (sym (name-at i) ∙ e ∙ name-at j)) ∙ mended-old a p (at .0) j;
+        differ = λ i j h g e.
+            let q = fine .systems .differ (old a i) (old a j) (old-stands i h) (old-stands j g) (sym (name-at i) ∙ e ∙ name-at j) in
+            sym (mended-old a p (at .0) i) ∙ ap (mended a p) q ∙ mended-old a p (at .0) j;
       }
     where
       name-at : (x : ℕ) → systemAt (without l a) x .name ≡ systemAt l (old a x) .name
