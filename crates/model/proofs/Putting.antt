@@ -129,7 +129,7 @@ module _ (m : Memory) (fine : Fine m) (s : System) (own : ownFine s ≡ true) (p
           few = omega (arith, more-length);
           own = λ q. by-place (λ x t. Stands more x → ownFine t ≡ true) q (λ g h. fine .systems .own q (omega arith)) (λ h. own) (λ g h. absurd (omega arith));
           preds = preds-at;
-          differ = λ i j. by-place (λ x t. Stands more x → Stands more j → t .name ≡ systemAt more j .name → x ≡ j) i (old-differs i j) (new-differs j) (λ g h. absurd (omega arith));
+          differ = λ i j. by-place (Differs j) i (old-differs i j) (new-differs j) (λ g h. absurd (omega arith));
         }
       where
         preds-at : (q : ℕ) → Placed more (systemAt more q .kind) (systemAt more q .pred)
@@ -138,6 +138,9 @@ module _ (m : Memory) (fine : Fine m) (s : System) (own : ownFine s ≡ true) (p
             (λ g. placed-extends extended _ _ (fine .systems .preds q))
             (placed-extends extended (s .kind) (s .pred) pred)
             (λ g h. absurd (omega arith))
+
+        Differs : ℕ → ℕ → System → Type 0
+        Differs j x t = Stands more x → Stands more j → t .name ≡ systemAt more j .name → x ≡ j
 
         old-differs : (i j : ℕ) → i ≤ length (m .systems) → Stands more i → Stands more j → systemAt (m .systems) i .name ≡ systemAt more j .name → i ≡ j
         old-differs i j g =

@@ -85,12 +85,12 @@ module _ (st : State) (line b : List ℕ) where
   line-untouched : (stepped st line b .number ≡ 0 → ⊥) → Untouched st b (stepped st line b)
   line-untouched =
       by-case (λ o. (o .number ≡ 0 → ⊥) → Untouched st b o)
-      (λ w z. same)
-      (λ n h h′ z. record { volatile = refl; permanent = refl; level = refl; buffer = refl; count = refl })
+      (λ w z. left (st .error) 1)
+      (λ n h h′ z. left n n)
       (λ w e z. absurd (z (carried-number st (reading line) b)))
     where
-      same : Untouched st b (refused st 1 b)
-      same = record { volatile = refl; permanent = refl; level = refl; buffer = refl; count = refl }
+      left : (error n : ℕ) → Untouched st b (refused (withError st error) n b)
+      left error n = record { volatile = refl; permanent = refl; level = refl; buffer = refl; count = refl }
 
   line-one : stepped st line b .number ≡ 1 → stepped st line b .state ≡ st
   line-one =
