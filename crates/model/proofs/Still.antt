@@ -19,7 +19,7 @@ use Rattle.model.specs.Effects.{withSystems, withPred, withName, put, fr
 use Rattle.model.specs.Machine.{stepped, carriedOut}
 use Rattle.model.specs.Trace.{Line, afterLines}
 use Rattle.model.specs.Claims.{applies}
-use Rattle.model.specs.Demand.{frames, changesEnabled, asksToEnable, steady}
+use Rattle.model.specs.Demand.{frames, changesEnabled, asksToEnable, noneTaken, steady}
 use Rattle.model.proofs.Basics.{and-split, or-false, either, true-false}
 use Rattle.model.proofs.Hops.{InRange, hop-past, ring-free, ends-in-time}
 use Rattle.model.proofs.Steps.{Ends}
@@ -177,7 +177,7 @@ still-line st line b =
 
 -- every list of such lines
 pub still-lines : (st : State) (cs : List Line) → steady st cs ≡ true → frames (afterLines st cs .volatile) ≡ frames (st .volatile)
-unfolding steady afterLines
+unfolding noneTaken afterLines
 still-lines st [] s = refl
 still-lines st (c ∷ cs) s =
     let h = and-split (not (eqb (stepped st (c .bytes) (c .buffer) .number) 0 && asksToEnable (reading (c .bytes)))) _ s in

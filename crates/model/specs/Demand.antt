@@ -45,12 +45,16 @@ asksToEnable (asks (change c)) = changesEnabled c
 asksToEnable (asks (list q)) = false
 asksToEnable (asks lastError) = false
 
--- [Two lists 1] no accepted KEN, RPA or DPA among the lines, each judged at its turn
-unfoldable pub steady : State → List Line → Bool
-steady st [] = true
-steady st (c ∷ cs) =
+-- [Two lists 1] none of the lines that ask for such a thing is accepted, each judged at its turn
+unfoldable pub noneTaken : (Reading → Bool) → State → List Line → Bool
+noneTaken p st [] = true
+noneTaken p st (c ∷ cs) =
     let o = stepped st (c .bytes) (c .buffer) in
-    not (eqb (o .number) 0 && asksToEnable (reading (c .bytes))) && steady (o .state) cs
+    not (eqb (o .number) 0 && p (reading (c .bytes))) && noneTaken p (o .state) cs
+
+-- [demand 3] no accepted KEN, RPA or DPA among the lines
+abbrev pub steady : State → List Line → Bool
+steady = noneTaken asksToEnable
 
 -- [Two lists 2] what is compared of an enabled system: its name, its chain by name, its resultant and steps
 pub record Held : Type 0 where
