@@ -1,19 +1,19 @@
 -- The number of a call is exact: the first that applies, and only if one does.
 use Prim.Native.Nat.{ℕ, _≤_}
 use mathlib.Core.Path.{_≡_, refl, sym, ap, _∙_}
-use mathlib.Core.Bool.{Bool, true, false}
+use mathlib.Core.Bool.{true, false}
 use mathlib.Core.List.{List}
 use mathlib.Core.Option.{Option, none, some}
 use mathlib.Core.Logic.{⊎-elim, _↔_}
 use native.Mathlib.Omega.{arith}
 use Rattle.model.specs.Memory.{Memory, State, started}
 use Rattle.model.specs.WellFormed.{wellFormed}
-use Rattle.model.specs.Refusals.{refusal, first, ladder, short}
+use Rattle.model.specs.Refusals.{refusal, ladder}
 use Rattle.model.specs.Image.{accepted}
-use Rattle.model.specs.Machine.{Outcome, Begun, began, stepped, restart, writeImage, startFactory, startImage}
+use Rattle.model.specs.Machine.{Outcome, Begun, began, stepped, startFactory, startImage}
 use Rattle.model.specs.Claims.{applies, FirstToApply, NumberExact, OtherNumbersExact}
-use Rattle.model.proofs.Basics.{either, true-false}
-use Rattle.model.proofs.Ladder.{ladder-ascends, ladder-largest, none-applies, first-applies, first-only, first-above, first-zero}
+use Rattle.model.proofs.Basics.{either}
+use Rattle.model.proofs.Ladder.{ladder-ascends, ladder-largest, none-applies, first-applies, first-only, first-zero}
 use Rattle.model.proofs.Refusing.{step-ill, step-number, refusal-range, restart-ill, restart-fine, image-ill, image-short, image-fine}
 
 -- ---- a line
@@ -52,7 +52,7 @@ module _ (st : State) (line b : List ℕ) where
 
 -- ---- a start from an image
 
-start-none : (bytes : List ℕ) → accepted bytes ≡ none → startImage bytes ≡ began startFactory 14
+pub start-none : (bytes : List ℕ) → accepted bytes ≡ none → startImage bytes ≡ began startFactory 14
 unfolding startImage
 start-none bytes e = rw (e, startImage)
 

@@ -6,7 +6,7 @@ use mathlib.Core.Bool.{Bool, true, false, cond, not, _&&_, _||_}
 use mathlib.Core.Logic.{_⊎_, inl, inr, ⊎-elim}
 use native.Mathlib.Omega.{arith}
 use native.Mathlib.Decide.{decLt}
-use borrow.Author.Tests.{eqb-true, leb-true, ltb-true, eq-eqb, le-leb, lt-ltb, not-true, ne-eqb}
+use borrow.Author.Tests.{eqb-true, leb-true, ltb-true, eq-eqb, le-leb, lt-ltb, not-true}
 use lib.Dec.{eqb, leb, ltb}
 use lib.ListN.{length, getD, List·getD-eq-default}
 use Rattle.model.specs.Types.{Kind, Ksd, Kst, Ksw, Ksb, Kld, Enabled, OperatingPart, Single, Pair}
@@ -97,13 +97,16 @@ pub record Fine (m : Memory) : Type 0 where
   pub ringless : noRing (m .systems) ≡ true
   pub enabled : EnabledPlaced (m .systems) (m .enabled)
 
+pub placed-within : (l : List System) (k : Kind) (p : ℕ) → Placed l k p → p ≤ length l
+placed-within l k p f = go (decLt 0 p)
+  where
+    go : Dec (0 < p) → p ≤ length l
+    go (yes h) = f h .0
+    go (no h) = omega arith
+
 -- every predecessor is in the list, or the fixed system
 pub preds-within : {l : List System} → Systems l → (k : ℕ) → systemAt l k .pred ≤ length l
-preds-within {l} s k = go (decLt 0 (systemAt l k .pred))
-  where
-    go : Dec (0 < systemAt l k .pred) → systemAt l k .pred ≤ length l
-    go (yes h) = s .preds k h .0
-    go (no h) = omega arith
+preds-within {l} s k = placed-within l (systemAt l k .kind) (systemAt l k .pred) (s .preds k)
 
 -- ---- names that differ
 

@@ -3,12 +3,10 @@ use Prim.Native.Nat.{ℕ, _≤_, _<_}
 use mathlib.Core.Path.{_≡_, refl, sym, ap, _∙_}
 use mathlib.Core.List.{List, [], _∷_, _++_, map}
 use mathlib.Core.Bool.{Bool, false, _||_}
-use native.Mathlib.Omega.{arith}
-use native.Mathlib.Decide.{decLt}
 use borrow.Author.Tests.{eqb-false}
 use lib.Dec.{eqb}
 use lib.ListN.{length}
-use Rattle.model.specs.Types.{Kind, Operating, Orientational, Levelling, Enabled, OperatingPart, Single, Pair}
+use Rattle.model.specs.Types.{Operating, Orientational, Levelling, Enabled, OperatingPart, Single, Pair}
 use Rattle.model.specs.Lists.{any}
 use Rattle.model.specs.Memory.{System, Memory, Ref}
 use Rattle.model.specs.Chain.{onChain}
@@ -20,7 +18,7 @@ use Rattle.model.proofs.Hops.{ring-free}
 use Rattle.model.proofs.Steps.{Ends, off-path}
 use Rattle.model.proofs.Carry.{AlikeFrom, carried-held}
 use Rattle.model.proofs.Relink.{Misses}
-use Rattle.model.proofs.Fine.{Placed, PartPlaced, Fine}
+use Rattle.model.proofs.Fine.{PartPlaced, Fine, placed-within}
 
 -- ---- what is so of every enabled place
 
@@ -92,24 +90,17 @@ enabled-unmoved e = λ i. record { operating = part (e .operating) i; orientatio
 -- ---- the enabled places of a well-formed memory
 
 module _ (m : Memory) (fine : Fine m) where
-  within : (k : Kind) (q : ℕ) → Placed (m .systems) k q → q ≤ length (m .systems)
-  within k q h = go (decLt 0 q)
-    where
-      go : Dec (0 < q) → q ≤ length (m .systems)
-      go (yes p) = h p .0
-      go (no p) = omega arith
-
   pub enabled-within : EachEnabled (λ q. q ≤ length (m .systems)) (m .enabled)
   enabled-within =
       record {
         operating = part (m .enabled .operating) (fine .enabled .operating);
-        orientational = within _ (m .enabled .orientational) (fine .enabled .orientational);
-        levelling = within _ (m .enabled .levelling) (fine .enabled .levelling);
+        orientational = placed-within (m .systems) _ (m .enabled .orientational) (fine .enabled .orientational);
+        levelling = placed-within (m .systems) _ (m .enabled .levelling) (fine .enabled .levelling);
       }
     where
       part : (o : OperatingPart) → PartPlaced (m .systems) o → PartHas (λ q. q ≤ length (m .systems)) o
-      part (Single p) h = within _ p h
-      part (Pair w t) h = (within _ w (h .0), within _ t (h .1))
+      part (Single p) h = placed-within (m .systems) _ p h
+      part (Pair w t) h = (placed-within (m .systems) _ w (h .0), placed-within (m .systems) _ t (h .1))
 
   -- a system that is not in use is met by no enabled chain
   pub unused-missed : (k : ℕ) → 0 < k → inUse m k ≡ false → EachEnabled (λ q. Misses (m .systems) k q) (m .enabled)

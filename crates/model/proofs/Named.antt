@@ -1,22 +1,21 @@
 -- How a name finds its system.
 use Prim.Native.Nat.{ℕ, zero, suc, _≤_, _<_}
-use mathlib.Core.Path.{_≡_, refl, sym, ap, _∙_}
+use mathlib.Core.Path.{_≡_, refl, sym, _∙_}
 use mathlib.Core.List.{List, [], _∷_}
-use mathlib.Core.Bool.{Bool, true, false, cond, not, _||_}
-use mathlib.Core.Option.{Option, none, some}
-use mathlib.Core.Logic.{_⊎_, inl, inr, ⊎-elim}
+use mathlib.Core.Bool.{Bool, true, false, cond, _||_}
+use mathlib.Core.Option.{none, some}
+use mathlib.Core.Logic.{⊎-elim}
 use native.Mathlib.Omega.{arith}
 use native.Mathlib.Decide.{decLt}
 use borrow.Author.Tests.{ltb-true, ltb-false, lt-ltb, le-ltb, not-false}
-use lib.Dec.{ltb}
 use lib.ListN.{length}
 use Rattle.model.specs.Types.{Group, Operating, Orientational, Levelling}
 use Rattle.model.specs.Lists.{any, least, same, oneOf, there?}
-use Rattle.model.specs.Kinds.{ofGroup, groups, reservedNames}
-use Rattle.model.specs.Memory.{System, Memory, Ref, systemAt, fixedRef, userRef, placeNamed, isUser, fixedNamed, find, refOr, named}
+use Rattle.model.specs.Kinds.{ofGroup, groups}
+use Rattle.model.specs.Memory.{System, Memory, Ref, systemAt, userRef, placeNamed, isUser, fixedNamed, find, refOr, named}
 use Rattle.model.specs.Words.{reserved}
 use Rattle.model.specs.Refusals.{absent}
-use Rattle.model.proofs.Basics.{either, true-false, or-false, or-left, or-right, ≡→same, same→≡, least-le, least-hit, least-miss}
+use Rattle.model.proofs.Basics.{either, true-false, ≡→same, same→≡, least-hit, least-miss}
 use Rattle.model.proofs.Fine.{Stands}
 
 -- ---- the place of a name
