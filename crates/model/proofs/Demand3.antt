@@ -22,13 +22,14 @@ use Rattle.model.specs.Effects.{next}
 use Rattle.model.specs.Refusals.{first, short, refusal, ladder}
 use Rattle.model.specs.Reply.{decimal, sixValues, listing, everySystem, resultantLine, listed, reply}
 use Rattle.model.specs.Machine.{answered, carriedOut, stepped}
-use Rattle.model.specs.Demand.{Start, startState, Defined, OperatingDefined, Reaches, Sound, Listed, Demand3}
-use Rattle.model.specs.Trace.{Call, Line, afterCalls, afterLines}
+use Rattle.model.specs.Demand.{startState, Defined, OperatingDefined, Reaches, Sound, Listed, Demand3}
+use Rattle.model.specs.Trace.{afterCalls, afterLines}
 use Rattle.model.proofs.Open.{definitions-open}
 use Rattle.model.proofs.Hops.{hop-last, ring-free}
 use Rattle.model.proofs.Steps.{Ends, steps-within, steps-end, steps-before, chain-length, chain-zero}
 use Rattle.model.proofs.Fine.{Placed, PartPlaced, Systems, Fine, state-of, fine-of}
 use Rattle.model.proofs.Refusing.{step-fine, step-number, judged-taken}
+use Rattle.model.proofs.Kept.{well-formed-kept}
 use Rattle.model.proofs.Still.{still-lines}
 
 -- ---- one memory
@@ -128,15 +129,14 @@ klt-listed st w =
 
 -- ---- both lists
 
-module _ (history : (start : Start) (first : List Call) (second : List Line) → wellFormed (afterLines (afterCalls (startState start) first) second) ≡ true) where
-  pub demand-3 : Demand3
-  demand-3 start first second s =
-      let w = history start first second in
-      let st = afterLines (afterCalls (startState start) first) second in
-      let f = state-of st w in
-      record {
-        volatile = sound (st .volatile) (fine-of (st .volatile) (f .volatile));
-        permanent = sound (st .permanent) (fine-of (st .permanent) (f .permanent));
-        listed = klt-listed st w;
-        still = still-lines (afterCalls (startState start) first) second s;
-      }
+pub demand-3 : Demand3
+demand-3 start first second s =
+    let w = well-formed-kept .history start first second in
+    let st = afterLines (afterCalls (startState start) first) second in
+    let f = state-of st w in
+    record {
+      volatile = sound (st .volatile) (fine-of (st .volatile) (f .volatile));
+      permanent = sound (st .permanent) (fine-of (st .permanent) (f .permanent));
+      listed = klt-listed st w;
+      still = still-lines (afterCalls (startState start) first) second s;
+    }
