@@ -12,15 +12,10 @@ use Rattle.model.specs.Request.{Change, Query, Reading, reading, unknown
 use Rattle.model.specs.Effects.{withError}
 use Rattle.model.specs.Refusals.{ladder}
 use Rattle.model.specs.Reply.{listing, everySystem, enabledLine}
-use Rattle.model.specs.Machine.{Outcome, answered, stepped, restart, writeImage, startImage}
+use Rattle.model.specs.Machine.{stepped, restart, writeImage, startImage}
 use Rattle.model.specs.Trace.{Call, Line, afterCalls, afterLines}
 use Rattle.model.specs.Claims.{applies}
-use Rattle.model.specs.Demand.{Start, startState, noneTaken, Held, HeldPart, alone, pair, frames}
-
--- a line of these bytes that asks for nothing but a listing: refused with 2 alone, and otherwise it gives this reply and changes nothing
-pub record Replies (st : State) (line text : List ℕ) : Type 0 where
-  pub short : (b : List ℕ) → length b < bufferLimit → stepped st line b .number ≡ 2
-  pub taken : (b : List ℕ) → bufferLimit ≤ length b → stepped st line b ≡ answered st text b
+use Rattle.model.specs.Demand.{Start, startState, noneTaken, Replies, Held, HeldPart, alone, pair, frames}
 
 -- ---- (1) KEN? shows one system, or one work and tool pair, for each group
 
