@@ -2,6 +2,7 @@
 use Prim.Native.Nat.{ℕ, zero, suc, _<_}
 use mathlib.Core.Path.{_≡_, refl, sym, ap, _∙_}
 use mathlib.Core.List.{List, _∷_, map}
+use native.Mathlib.Omega.{arith}
 use lib.Dec.{eqb}
 use lib.ListN.{length}
 use borrow.Author.Tests.{eq-eqb, eqb-true}
@@ -16,10 +17,10 @@ use Rattle.model.proofs.Steps.{Ends, steps-first, steps-end, steps-befo
 
 -- ---- tables
 
-pub table-cong : {A : Type 0} (n : ℕ) (f g : ℕ → A) → ((i : ℕ) → f i ≡ g i) → table n f ≡ table n g
+pub table-cong : {A : Type 0} (n : ℕ) (f g : ℕ → A) → ((i : ℕ) → i < n → f i ≡ g i) → table n f ≡ table n g
 unfolding table
 table-cong zero f g e = refl
-table-cong (suc n) f g e = rw (e 0) (ap (λ t. g 0 ∷ t) (table-cong n (λ i. f (suc i)) (λ i. g (suc i)) (λ i. e (suc i))))
+table-cong (suc n) f g e = rw (e 0 (omega arith)) (ap (λ t. g 0 ∷ t) (table-cong n (λ i. f (suc i)) (λ i. g (suc i)) (λ i h. e (suc i) (omega arith))))
 
 pub map-table : {A B : Type 0} (h : A → B) (n : ℕ) (f : ℕ → A) → map h (table n f) ≡ table n (λ i. h (f i))
 unfolding table
@@ -68,7 +69,7 @@ module _ (l l′ : List System) (f : ℕ → ℕ) where
     unfolding chain
     carried-chain =
         rw (carried-steps, map-table f (steps l q) (λ i. hop l (suc i) q))
-        (table-cong (steps l q) (λ i. hop l′ (suc i) (f q)) (λ i. f (hop l (suc i) q)) (λ i. carried-hop q alike (suc i)))
+        (table-cong (steps l q) (λ i. hop l′ (suc i) (f q)) (λ i. f (hop l (suc i) q)) (λ i h. carried-hop q alike (suc i)))
 
     pub carried-names : (g : Group) → map (λ p. nameOf l′ (inGroup g p)) (chain l′ (f q)) ≡ map (λ p. nameOf l (inGroup g p)) (chain l q)
     unfolding chain
@@ -76,7 +77,7 @@ module _ (l l′ : List System) (f : ℕ → ℕ) where
         let n : ℕ → List ℕ = λ p. nameOf l (inGroup g p) in
         let n′ : ℕ → List ℕ = λ p. nameOf l′ (inGroup g p) in
         map-table n′ (steps l′ (f q)) (λ i. hop l′ (suc i) (f q))
-        ∙ rw carried-steps (table-cong (steps l q) (λ i. n′ (hop l′ (suc i) (f q))) (λ i. n (hop l (suc i) q)) (λ i. ap n′ (carried-hop q alike (suc i)) ∙ alike (suc i) .name g))
+        ∙ rw carried-steps (table-cong (steps l q) (λ i. n′ (hop l′ (suc i) (f q))) (λ i. n (hop l (suc i) q)) (λ i h. ap n′ (carried-hop q alike (suc i)) ∙ alike (suc i) .name g))
         ∙ sym (map-table n (steps l q) (λ i. hop l (suc i) q))
 
 -- what demand 3 compares of an enabled system

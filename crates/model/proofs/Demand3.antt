@@ -1,34 +1,31 @@
 -- Demand 3, proved: `demand-3`.
-use Prim.Native.Nat.{ℕ, zero, suc, _≤_, _<_}
+use Prim.Native.Nat.{ℕ, zero, suc, _<_}
 use mathlib.Core.Path.{_≡_, refl, ap, _∙_}
 use mathlib.Core.List.{List, _++_, map, append-assoc, append-nil}
 use mathlib.Core.Bool.{true}
 use mathlib.Core.Logic.{inl, inr}
 use native.Mathlib.Omega.{arith}
 use native.Mathlib.Decide.{decLt}
-use borrow.Author.Tests.{lt-ltb, le-ltb}
 use lib.ListN.{length}
 use Rattle.model.specs.Types.{Kind, OperatingPart, Single, Pair}
 use Rattle.model.specs.Ascii.{ascii}
 use Rattle.model.specs.Lists.{joined}
 use Rattle.model.specs.Kinds.{ofGroup}
-use Rattle.model.specs.Limits.{bufferLimit}
 use Rattle.model.specs.Pose.{shown}
 use Rattle.model.specs.Memory.{System, Memory, State, Ref, systemAt, nameOf}
 use Rattle.model.specs.Chain.{predOf, hop, steps, chain, resultant}
 use Rattle.model.specs.WellFormed.{wellFormed}
 use Rattle.model.specs.Request.{reading, asks, list, resultants}
-use Rattle.model.specs.Effects.{next}
-use Rattle.model.specs.Refusals.{first, short, refusal, ladder}
-use Rattle.model.specs.Reply.{decimal, sixValues, listing, everySystem, resultantLine, listed, reply}
-use Rattle.model.specs.Machine.{answered, carriedOut, stepped}
-use Rattle.model.specs.Demand.{Start, startState, Defined, OperatingDefined, Reaches, Sound, Listed, Demand3}
-use Rattle.model.specs.Trace.{Call, Line, afterCalls, afterLines}
+use Rattle.model.specs.Refusals.{first, short}
+use Rattle.model.specs.Reply.{decimal, sixValues, listing, everySystem, resultantLine, listed}
+use Rattle.model.specs.Demand.{startState, Defined, OperatingDefined, Reaches, Sound, Replies, Listed, Demand3}
+use Rattle.model.specs.Trace.{afterCalls, afterLines}
 use Rattle.model.proofs.Open.{definitions-open}
 use Rattle.model.proofs.Hops.{hop-last, ring-free}
 use Rattle.model.proofs.Steps.{Ends, steps-within, steps-end, steps-before, chain-length, chain-zero}
 use Rattle.model.proofs.Fine.{Placed, PartPlaced, Systems, Fine, state-of, fine-of}
-use Rattle.model.proofs.Refusing.{step-fine, step-number, judged-taken}
+use Rattle.model.proofs.Queries.{query-replies}
+use Rattle.model.proofs.Kept.{well-formed-kept}
 use Rattle.model.proofs.Still.{still-lines}
 
 -- ---- one memory
@@ -91,21 +88,9 @@ klt-read : reading (ascii "KLT?") ≡ asks (list resultants)
 unfolding definitions-open
 klt-read = refl
 
-klt-short : (st : State) (b : List ℕ) → length b < bufferLimit → refusal st (ascii "KLT?") b ≡ 2
-unfolding refusal ladder first short
-klt-short st b h = rw (lt-ltb (length b) bufferLimit h)
-
-klt-taken : (st : State) (b : List ℕ) → bufferLimit ≤ length b → refusal st (ascii "KLT?") b ≡ 0
+klt-shown : (st : State) → wellFormed st ≡ true → Replies st (ascii "KLT?") (listing (map (resultantLine (st .volatile .systems)) (everySystem (st .volatile .systems))))
 unfolding definitions-open
-klt-taken st b h = rw (le-ltb (length b) bufferLimit h)
-
-klt-answer : (st : State) (b : List ℕ) → wellFormed st ≡ true → bufferLimit ≤ length b →
-    stepped st (ascii "KLT?") b ≡ answered st (listing (map (resultantLine (st .volatile .systems)) (everySystem (st .volatile .systems)))) b
-unfolding carriedOut next reply listed
-klt-answer st b w h =
-    step-fine st (ascii "KLT?") b w
-    ∙ judged-taken st (refusal st (ascii "KLT?") b) (ascii "KLT?") b (rw (klt-taken st b h))
-    ∙ ap (λ r. carriedOut st r b) klt-read
+klt-shown st w = query-replies st w (ascii "KLT?") resultants klt-read refl refl
 
 -- the line of a system: its name first, the steps of its chain last
 klt-line : (l : List System) (r : Ref) → (rest : List ℕ) ×
@@ -119,24 +104,18 @@ klt-line l r =
     (end ++ six, rw (chain-length l (r .place), append-nil, append-assoc end six (ascii " Steps=" ++ decimal (steps l (r .place)))))
 
 klt-listed : (st : State) → wellFormed st ≡ true → Listed st
-klt-listed st w =
-    record {
-      refused = λ b h. step-number st (ascii "KLT?") b w ∙ klt-short st b h;
-      replies = λ b h. klt-answer st b w h;
-      steps = klt-line (st .volatile .systems);
-    }
+klt-listed st w = record { shown = klt-shown st w; steps = klt-line (st .volatile .systems) }
 
 -- ---- both lists
 
-module _ (history : (start : Start) (first : List Call) (second : List Line) → wellFormed (afterLines (afterCalls (startState start) first) second) ≡ true) where
-  pub demand-3 : Demand3
-  demand-3 start first second s =
-      let w = history start first second in
-      let st = afterLines (afterCalls (startState start) first) second in
-      let f = state-of st w in
-      record {
-        volatile = sound (st .volatile) (fine-of (st .volatile) (f .volatile));
-        permanent = sound (st .permanent) (fine-of (st .permanent) (f .permanent));
-        listed = klt-listed st w;
-        still = still-lines (afterCalls (startState start) first) second s;
-      }
+pub demand-3 : Demand3
+demand-3 start first second s =
+    let w = well-formed-kept .history start first second in
+    let st = afterLines (afterCalls (startState start) first) second in
+    let f = state-of st w in
+    record {
+      volatile = sound (st .volatile) (fine-of (st .volatile) (f .volatile));
+      permanent = sound (st .permanent) (fine-of (st .permanent) (f .permanent));
+      listed = klt-listed st w;
+      still = still-lines (afterCalls (startState start) first) second s;
+    }

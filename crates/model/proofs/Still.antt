@@ -14,12 +14,12 @@ use Rattle.model.specs.Chain.{hop}
 use Rattle.model.specs.Use.{inUse, nameInUse}
 use Rattle.model.specs.Request.{Change, Reading, reading, unknown, malformed, beyond, asks, change, list, lastError, define, link, copy, remove, enable, setLevel, save, restore, reset}
 use Rattle.model.specs.Words.{reserved}
-use Rattle.model.specs.Refusals.{absent, short, unreadable, changeLadder, requestLadder, readingLadder, ladder, refusal}
+use Rattle.model.specs.Refusals.{absent, changeLadder, requestLadder, readingLadder}
 use Rattle.model.specs.Effects.{withSystems, withPred, withName, put, fresh, linked, mended, removedAt, changed, next}
 use Rattle.model.specs.Machine.{stepped, carriedOut}
 use Rattle.model.specs.Trace.{Line, afterLines}
 use Rattle.model.specs.Claims.{applies}
-use Rattle.model.specs.Demand.{frames, changesEnabled, asksToEnable, steady}
+use Rattle.model.specs.Demand.{frames, changesEnabled, asksToEnable, noneTaken, steady}
 use Rattle.model.proofs.Basics.{and-split, or-false, either, true-false}
 use Rattle.model.proofs.Hops.{InRange, hop-past, ring-free, ends-in-time}
 use Rattle.model.proofs.Steps.{Ends}
@@ -28,7 +28,7 @@ use Rattle.model.proofs.Relink.{Misses, replaced-alike, replaced-hop, a
 use Rattle.model.proofs.Removal.{mended-zero, mended-in-range, without, without-length, removed-alike-from, removed-in-range, not-its-own}
 use Rattle.model.proofs.Fine.{Fine, Stands, preds-within, state-of, fine-of}
 use Rattle.model.proofs.Named.{user-place, place-stands, place-name, present-user}
-use Rattle.model.proofs.Ladder.{ladder-ascends, none-applies}
+use Rattle.model.proofs.Ladder.{Clear, clear-of}
 use Rattle.model.proofs.Refusing.{by-case, carried-number}
 use Rattle.model.proofs.Frames.{each-also, each-both, Carried, carried-frames, enabled-unmoved, enabled-within, unused-missed}
 
@@ -132,7 +132,7 @@ module _ (m : Memory) (fine : Fine m) where
 -- ---- a line
 
 -- an accepted change other than KEN, RPA and DPA
-pub still-changed : (st : State) → Fine (st .volatile) → (c : Change) → changesEnabled c ≡ false → ((n : ℕ) → applies n (changeLadder st (st .volatile) c) ≡ false) → frames (changed st (st .volatile) c .volatile) ≡ frames (st .volatile)
+pub still-changed : (st : State) → Fine (st .volatile) → (c : Change) → changesEnabled c ≡ false → Clear (changeLadder st (st .volatile) c) → frames (changed st (st .volatile) c .volatile) ≡ frames (st .volatile)
 unfolding changed changesEnabled changeLadder applies any fresh
 still-changed st fine (define k n t u) e clear = still-put (st .volatile) fine (fresh (st .volatile) k n t u) (or-false (nameInUse (st .volatile) n) _ (clear 11) .0)
 still-changed st fine (link a b) e clear =
@@ -149,7 +149,7 @@ still-changed st fine restore e clear = true-false e
 still-changed st fine reset e clear = true-false e
 
 -- any accepted line
-still-read : (st : State) → Fine (st .volatile) → (r : Reading) (b : List ℕ) → asksToEnable r ≡ false → ((n : ℕ) → applies n (readingLadder st r) ≡ false) → frames (carriedOut st r b .state .volatile) ≡ frames (st .volatile)
+still-read : (st : State) → Fine (st .volatile) → (r : Reading) (b : List ℕ) → asksToEnable r ≡ false → Clear (readingLadder st r) → frames (carriedOut st r b .state .volatile) ≡ frames (st .volatile)
 unfolding carriedOut asksToEnable readingLadder requestLadder next
 still-read st fine unknown b e clear = refl
 still-read st fine malformed b e clear = refl
@@ -158,26 +158,19 @@ still-read st fine (asks (change c)) b e clear = still-changed st fine c e clear
 still-read st fine (asks (list q)) b e clear = refl
 still-read st fine (asks lastError) b e clear = refl
 
--- what is accepted meets no rung of its reading
-clear-reading : (st : State) (line b : List ℕ) → refusal st line b ≡ 0 → (n : ℕ) → applies n (readingLadder st (reading line)) ≡ false
-unfolding refusal applies ladder any
-clear-reading st line b z n =
-    let a = none-applies (ladder st line b) 1 (ladder-ascends st line b) z n in
-    or-false (eqb n 3 && unreadable line) _ (or-false (eqb n 2 && short b) _ a .1) .1
-
 pub still-line : (st : State) (line b : List ℕ) → not (eqb (stepped st line b .number) 0 && asksToEnable (reading line)) ≡ true → frames (stepped st line b .state .volatile) ≡ frames (st .volatile)
 still-line st line b =
     by-case st line b (λ o. not (eqb (o .number) 0 && asksToEnable (reading line)) ≡ true → frames (o .state .volatile) ≡ frames (st .volatile))
     (λ w e. refl)
     (λ n h h′ e. refl)
-    (λ w z e. still-read st (fine-of (st .volatile) (state-of st w .volatile)) (reading line) b (kind e) (clear-reading st line b z))
+    (λ w z e. still-read st (fine-of (st .volatile) (state-of st w .volatile)) (reading line) b (kind e) (clear-of st line b z))
   where
     kind : not (eqb (carriedOut st (reading line) b .number) 0 && asksToEnable (reading line)) ≡ true → asksToEnable (reading line) ≡ false
     kind e = rw (carried-number st (reading line) b) at (not-true (eqb (carriedOut st (reading line) b .number) 0 && asksToEnable (reading line)) e)
 
 -- every list of such lines
 pub still-lines : (st : State) (cs : List Line) → steady st cs ≡ true → frames (afterLines st cs .volatile) ≡ frames (st .volatile)
-unfolding steady afterLines
+unfolding noneTaken afterLines
 still-lines st [] s = refl
 still-lines st (c ∷ cs) s =
     let h = and-split (not (eqb (stepped st (c .bytes) (c .buffer) .number) 0 && asksToEnable (reading (c .bytes)))) _ s in

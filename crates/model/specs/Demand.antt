@@ -45,12 +45,16 @@ asksToEnable (asks (change c)) = changesEnabled c
 asksToEnable (asks (list q)) = false
 asksToEnable (asks lastError) = false
 
--- [Two lists 1] no accepted KEN, RPA or DPA among the lines, each judged at its turn
-unfoldable pub steady : State → List Line → Bool
-steady st [] = true
-steady st (c ∷ cs) =
+-- [Two lists 1] none of the lines that ask for such a thing is accepted, each judged at its turn
+unfoldable pub noneTaken : (Reading → Bool) → State → List Line → Bool
+noneTaken p st [] = true
+noneTaken p st (c ∷ cs) =
     let o = stepped st (c .bytes) (c .buffer) in
-    not (eqb (o .number) 0 && asksToEnable (reading (c .bytes))) && steady (o .state) cs
+    not (eqb (o .number) 0 && p (reading (c .bytes))) && noneTaken p (o .state) cs
+
+-- [demand 3] no accepted KEN, RPA or DPA among the lines
+abbrev pub steady : State → List Line → Bool
+steady = noneTaken asksToEnable
 
 -- [Two lists 2] what is compared of an enabled system: its name, its chain by name, its resultant and steps
 pub record Held : Type 0 where
@@ -123,11 +127,14 @@ pub record Sound (m : Memory) : Type 0 where
 
 -- ---- KLT? sent next
 
--- [Two lists 2] refused only with 2; otherwise the listing is the reply, with a line for each system, which begins with its name and ends in the steps of its chain
+-- a line with these bytes can be refused only with 2; otherwise it gives this reply and changes nothing
+pub record Replies (st : State) (line text : List ℕ) : Type 0 where
+  pub short : (b : List ℕ) → length b < bufferLimit → stepped st line b .number ≡ 2
+  pub taken : (b : List ℕ) → bufferLimit ≤ length b → stepped st line b ≡ answered st text b
+
+-- [Two lists 2] a line for each system, which begins with its name and ends in the steps of its chain
 pub record Listed (st : State) : Type 0 where
-  pub refused : (b : List ℕ) → length b < bufferLimit → stepped st (ascii "KLT?") b .number ≡ 2
-  pub replies : (b : List ℕ) → bufferLimit ≤ length b →
-      stepped st (ascii "KLT?") b ≡ answered st (listing (map (resultantLine (st .volatile .systems)) (everySystem (st .volatile .systems)))) b
+  pub shown : Replies st (ascii "KLT?") (listing (map (resultantLine (st .volatile .systems)) (everySystem (st .volatile .systems))))
   pub steps : (r : Ref) → (rest : List ℕ) ×
       (resultantLine (st .volatile .systems) r
       ≡ ascii "Name=" ++ (nameOf (st .volatile .systems) r ++ (ascii " EndCoordinateSystem=" ++ (rest

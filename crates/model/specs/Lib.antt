@@ -23,5 +23,6 @@ pub mod Machine
 pub mod Trace
 pub mod Demand
 pub mod Claims
+pub mod Checklist
 pub mod Table
 pub mod Stored
