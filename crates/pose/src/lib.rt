@@ -8,6 +8,7 @@ use model::Turns;
 use model::Vec3;
 
 pub mod rotation;
+mod tables;
 
 pub struct Pose {
     pub at: Vec3,
