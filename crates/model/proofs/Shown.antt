@@ -11,19 +11,18 @@ use Rattle.model.specs.Types.{Kind, Ksd, Kst, Ksw, Ksb, Kld, Operating, 
 use Rattle.model.specs.Ascii.{ascii}
 use Rattle.model.specs.Lists.{any, same, oneOf, joined, table}
 use Rattle.model.specs.Kinds.{ofKind, ofGroup}
-use Rattle.model.specs.Limits.{maxSystems}
 use Rattle.model.specs.Memory.{System, Memory, State, Ref, userRef, systemAt, nameOf, typeOf, predName, find, refOr}
-use Rattle.model.specs.Chain.{predOf, hop, steps}
+use Rattle.model.specs.Chain.{predOf, hop, steps, chain}
 use Rattle.model.specs.Use.{operatingPlaces, inGroup}
 use Rattle.model.specs.WellFormed.{wellFormed}
 use Rattle.model.specs.Request.{reading, asks, list, enabledOnes, links}
 use Rattle.model.specs.Refusals.{first, unreadable, queryLadder}
 use Rattle.model.specs.Reply.{everySystem, linkLine, listed}
-use Rattle.model.specs.Checklist.{Allowed, OneOrPair, one, work-and-tool, OneInEachGroup, below, followedDown, LeadsDown}
+use Rattle.model.specs.Checklist.{Allowed, OneOrPair, one, work-and-tool, OneInEachGroup, below, followedDown, Down, LeadsDown}
 use Rattle.model.proofs.Open.{definitions-open}
 use Rattle.model.proofs.Basics.{true-false, ≡→same}
-use Rattle.model.proofs.Hops.{ring-free}
-use Rattle.model.proofs.Steps.{steps-zero, steps-end, steps-within, steps-pred}
+use Rattle.model.proofs.Hops.{hop-zero, ring-free}
+use Rattle.model.proofs.Steps.{Ends, chain-length, steps-zero, steps-end, steps-within, steps-pred}
 use Rattle.model.proofs.Carry.{table-cong, map-table}
 use Rattle.model.proofs.Fine.{Placed, PartPlaced, Fine, state-of, fine-of}
 use Rattle.model.proofs.Found.{IsSystem, fixed, user, is-found, found-is}
@@ -106,26 +105,33 @@ module _ (m : Memory) (fine : Fine m) where
   pred-name zero h = absurd (omega arith)
   pred-name (suc i) h = refl
 
-  -- as many lines as the chain has steps lead to the fixed system
-  leads : (n : ℕ) {r : Ref} → IsSystem (m .systems) r → steps (m .systems) (r .place) ≡ n → followedDown m n (nameOf (m .systems) r) ≡ ofGroup (r .group) .name
-  unfolding followedDown nameOf hop
-  leads zero (fixed g) e = refl
-  leads zero (user k h) e = absurd (let z : k ≡ 0 = rw e at (steps-end (m .systems) k (ring-free (m .systems) (fine .ringless) k (h .1))) in omega (arith, h .0))
-  leads (suc n) (fixed g) e = absurd (omega (arith, steps-zero (m .systems)))
-  leads (suc n) (user k h) e =
-      let s = pred-system k (h .0) in
-      let fewer = steps-pred (m .systems) k (h .0) (ring-free (m .systems) (fine .ringless) k (h .1)) in
-      ap (followedDown m n) (below-name (user k h) ∙ pred-name k (h .0)) ∙ leads n s (omega arith)
+  system-ends : {r : Ref} → IsSystem (m .systems) r → Ends (m .systems) (r .place)
+  system-ends (fixed g) = hop-zero (m .systems) (length (m .systems))
+  system-ends (user k h) = ring-free (m .systems) (fine .ringless) k (h .1)
 
-  ends : (n : List ℕ) (r : Ref) → find m n ≡ some r → (i : ℕ) × (i ≤ maxSystems) × (followedDown m i n ≡ ofGroup (r .group) .name)
-  ends n r e =
+  -- so many lines lead where so many links do, while the chain lasts
+  passes : (i : ℕ) {r : Ref} → IsSystem (m .systems) r → i ≤ steps (m .systems) (r .place) → followedDown m i (nameOf (m .systems) r) ≡ nameOf (m .systems) (inGroup (r .group) (hop (m .systems) i (r .place)))
+  unfolding followedDown hop
+  passes zero s h = refl
+  passes (suc i) (fixed g) h = absurd (omega (arith, steps-zero (m .systems)))
+  passes (suc i) (user k st) h =
+      let fewer = steps-pred (m .systems) k (st .0) (system-ends (user k st)) in
+      ap (followedDown m i) (below-name (user k st) ∙ pred-name k (st .0)) ∙ passes i (pred-system k (st .0)) (omega arith)
+
+  down : (n : List ℕ) (r : Ref) → find m n ≡ some r → Down m n r
+  unfolding nameOf
+  down n r e =
+      let l = m .systems in
       let f = found-is m n r e in
-      let i = steps (m .systems) (r .place) in
-      (i, few (f .0), ap (followedDown m i) (sym (f .1)) ∙ leads i (f .0) refl)
-    where
-      few : {r : Ref} → IsSystem (m .systems) r → steps (m .systems) (r .place) ≤ maxSystems
-      few (fixed g) = omega (arith, steps-zero (m .systems))
-      few (user k h) = omega (arith, steps-within (m .systems) k (ring-free (m .systems) (fine .ringless) k (h .1)), fine .systems .few)
+      let c = chain-length l (r .place) in
+      let end = system-ends (f .0) in
+      let pass : (i : ℕ) → i ≤ length (chain l (r .place)) → followedDown m i n ≡ nameOf l (inGroup (r .group) (hop l i (r .place))) =
+      λ i h. ap (followedDown m i) (sym (f .1)) ∙ passes i (f .0) (rw c at h) in
+      record {
+        passes = pass;
+        ends = pass (length (chain l (r .place))) (omega arith) ∙ ap (λ x. nameOf l (inGroup (r .group) x)) (ap (λ i. hop l i (r .place)) c ∙ steps-end l (r .place) end);
+        few = omega (arith, c, steps-within l (r .place) end, fine .systems .few);
+      }
 
   -- the lines, with the name below each
   line : Ref → List ℕ
@@ -159,4 +165,4 @@ kln-leads st w =
     let m = st .volatile in
     let f = fine-of m (state-of st w .volatile) in
     let r = query-replies st w (ascii "KLN?") links kln-read kln-readable refl in
-    record { ends = ends m f; shown = rw (lines-are m f) at r }
+    record { down = down m f; shown = rw (lines-are m f) at r }

@@ -8,6 +8,8 @@ use Rattle.model.specs.Lists.{any, same, oneOf}
 use Rattle.model.specs.Limits.{maxSystems, bufferLimit}
 use Rattle.model.specs.Kinds.{ofGroup}
 use Rattle.model.specs.Memory.{Memory, State, Ref, nameOf, typeOf, predName, isUser, find, named}
+use Rattle.model.specs.Chain.{hop, chain}
+use Rattle.model.specs.Use.{inGroup}
 use Rattle.model.specs.Request.{Change, Query, Reading, reading, unknown, malformed, beyond, asks, change, list, lastError, define, link, copy, remove, enable, setLevel, save, restore, reset}
 use Rattle.model.specs.Effects.{withError}
 use Rattle.model.specs.Refusals.{ladder}
@@ -50,9 +52,15 @@ unfoldable pub followedDown : Memory → ℕ → List ℕ → List ℕ
 followedDown m zero n = n
 followedDown m (suc i) n = followedDown m i (below m n)
 
--- every name leads down to the fixed system of its group, in no more lines than 16
+-- the lines followed from a system's name pass the names on its chain, one after the other, and end at its group's fixed system, in no more than 16
+pub record Down (m : Memory) (n : List ℕ) (r : Ref) : Type 0 where
+  pub passes : (i : ℕ) → i ≤ length (chain (m .systems) (r .place)) → followedDown m i n ≡ nameOf (m .systems) (inGroup (r .group) (hop (m .systems) i (r .place)))
+  pub ends : followedDown m (length (chain (m .systems) (r .place))) n ≡ ofGroup (r .group) .name
+  pub few : length (chain (m .systems) (r .place)) ≤ maxSystems
+
+-- so it is from every name, and KLN? shows for each system the name below it
 pub record LeadsDown (st : State) : Type 0 where
-  pub ends : (n : List ℕ) (r : Ref) → find (st .volatile) n ≡ some r → (i : ℕ) × (i ≤ maxSystems) × (followedDown (st .volatile) i n ≡ ofGroup (r .group) .name)
+  pub down : (n : List ℕ) (r : Ref) → find (st .volatile) n ≡ some r → Down (st .volatile) n r
   pub shown : Replies st (ascii "KLN?") (listing (map (λ (r : Ref). nameOf (st .volatile .systems) r ++ (ascii "=" ++ below (st .volatile) (nameOf (st .volatile .systems) r))) (everySystem (st .volatile .systems))))
 
 -- ---- (3) a system under an enabled one is neither redefined, linked, copied over nor removed
