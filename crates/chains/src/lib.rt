@@ -1,0 +1,2 @@
+// Chains of predecessors over a memory's numbers laid flat: a whole memory is large, and a walk looks at little of it.
+pub mod links; // links.rt: the links alone: rings, chains, use
