@@ -4,10 +4,11 @@ use model::Memory;
 use model::OperatingPart;
 
 ghost use mathlib.Core.Path.{_≡_};
-ghost use Prim.Native.Nat.{ℕ, _≤_};
+ghost use Prim.Native.Nat.{min};
 ghost use lib.Dec.{eqb};
 ghost use mathlib.Core.Bool.{_||_};
 ghost use lib.ListN.{length, take};
+ghost use Rattle.model.specs.Limits.{maxSystems};
 ghost use Rattle.model.specs.Chain.{predOf, hop, onChain, noRing};
 ghost use Rattle.model.specs.Use.{inUse, operatingPlaces};
 ghost use Rattle.model.specs.Lists.{any};
@@ -20,14 +21,21 @@ pub struct Links {
     pub count: usize,
 }
 
-// The links of a memory. A count beyond the array means the whole array.
+// How many systems a memory has: a count beyond the array means the whole array.
+fn held(count: u8) -> usize
+    ensures { λ r. ⌜ r ≡ min count maxSystems ⌝ }
+{
+    if count < 16 {
+        count as usize
+    } else {
+        16
+    }
+}
+
 pub fn links_of(m: Memory) -> Links
     ensures { λ r. ⌜ LinksOf (systemsOf m) (r .preds) (r .count) ⌝ }
 {
-    let mut count: usize = m.count as usize;
-    if 16 < count {
-        count = 16;
-    }
+    let count = held(m.count);
     let mut preds = [0u8; 16];
     let mut i = 0;
     while i < count {
