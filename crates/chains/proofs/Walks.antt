@@ -3,6 +3,7 @@ use Prim.Native.Nat.{ℕ, zero, suc, _+_, _-_, _<_, _≤_}
 use mathlib.Core.Path.{_≡_, refl, sym, ap, _∙_}
 use mathlib.Core.Bool.{Bool, true, false, _||_}
 use mathlib.Core.List.{List}
+use mathlib.Core.Logic.{⊎-elim}
 use native.Mathlib.Omega.{arith}
 use native.Mathlib.Numerals.{add-one, sub-one}
 use borrow.Author.Tests.{eq-eqb, ne-eqb}
@@ -10,9 +11,9 @@ use lib.Dec.{eqb}
 use lib.ListN.{length, getD, length-map, List·getD-map}
 use Rattle.model.specs.Lists.{any, table, least}
 use Rattle.model.specs.Memory.{System, systemAt}
-use Rattle.model.specs.Chain.{predOf, hop, steps, chain, onChain}
-use Rattle.model.proofs.Basics.{least-now, least-later}
-use Rattle.model.proofs.Hops.{hop-zero}
+use Rattle.model.specs.Chain.{predOf, hop, steps, chain, onChain, noRing}
+use Rattle.model.proofs.Basics.{either, least-now, least-later}
+use Rattle.model.proofs.Hops.{hop-zero, ring-free, ring-free-from}
 use Rattle.chains.specs.Flat.{linkedTo, linkedBy}
 
 -- ---- one link
@@ -77,3 +78,9 @@ module _ (l : List System) where
 module _ (ps : List ℕ) where
   pub met-all : (a q : ℕ) → met (linkedBy ps) a (length ps + 1) q ≡ onChain (linkedBy ps) a q
   met-all a q = ap (λ (n : ℕ). met (linkedBy ps) a (n + 1) q) (sym (length-map ps linkedTo)) ∙ met-chain (linkedBy ps) a q
+
+  pub no-ring-by : ((q : ℕ) → q < length ps + 1 → hop (linkedBy ps) (length ps) q ≡ 0) → noRing (linkedBy ps) ≡ true
+  no-ring-by h = ring-free-from (linkedBy ps) (rw (length-map ps linkedTo) (λ q b. h q (omega arith)))
+
+  pub ring-by : (q : ℕ) → q ≤ length ps → (hop (linkedBy ps) (length ps) q ≡ 0 → ⊥) → noRing (linkedBy ps) ≡ false
+  ring-by q b h = ⊎-elim (λ e. absurd (h (rw (length-map ps linkedTo) at (ring-free (linkedBy ps) e q (rw (length-map ps linkedTo) b))))) (λ e. e) (either (noRing (linkedBy ps)))

@@ -2,7 +2,6 @@
 use model::Enabled;
 use model::Memory;
 use model::OperatingPart;
-
 ghost use mathlib.Core.Path.{_≡_};
 ghost use Prim.Native.Nat.{min};
 ghost use lib.Dec.{eqb};
@@ -25,11 +24,7 @@ pub struct Links {
 fn held(count: u8) -> usize
     ensures { λ r. ⌜ r ≡ min count maxSystems ⌝ }
 {
-    if count < 16 {
-        count as usize
-    } else {
-        16
-    }
+    if count < 16 { count as usize } else { 16 }
 }
 
 pub fn links_of(m: Memory) -> Links

@@ -1,4 +1,6 @@
+use mathlib.Core.Path.{sym, _∙_}
 use borrow.Author.Needs.{needs}
+use Rattle.chains.proofs.Used.{single-used, pair-used}
 use Rattle.chains.proofs.links.used_operating.Statement.{statement}
 use Rattle.chains.proofs.links.used_operating.Tie as tie
 use Rattle.chains.proofs.links.used_operating.Reads as reads
@@ -23,7 +25,8 @@ used-by-requires-2 c κs = search needs
 
 -- src/links.rt:130:17
 returns : tie.Need-returns
-returns c = ?
+returns c =
+    rw (c .before .before .before .part2 .given .1, pair-used, ← c .before .used-by2 .ensures, c .if1 .taken)
 
 -- src/links.rt:132:13
 used-by-requires-3 : tie.Need-used-by-requires-3
@@ -31,11 +34,13 @@ used-by-requires-3 c κs = search needs
 
 -- src/links.rt:123:1
 returns-2 : tie.Need-returns-2
-returns-2 c = ?
+returns-2 c = rw (c .before .before .part .given .1, single-used) (c .used-by .ensures)
 
 -- src/links.rt:123:1
 returns-3 : tie.Need-returns-3
-returns-3 c = ?
+returns-3 c =
+    let w = c .before .before in
+    rw (w .before .before .part2 .given .1, pair-used, ← w .used-by2 .ensures, c .before .if1 .left) (c .used-by3 .ensures)
 
 pub used-operating-spec : {M : Type 1} → statement M
 used-operating-spec =
