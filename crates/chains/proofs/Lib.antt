@@ -1,3 +1,4 @@
 pub mod Walks
 pub mod Copies
 pub mod Used
+pub mod Same
