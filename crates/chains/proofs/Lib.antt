@@ -2,3 +2,4 @@ pub mod Walks
 pub mod Copies
 pub mod Used
 pub mod Same
+pub mod Laid

@@ -21,7 +21,7 @@ pub struct Links {
 }
 
 // How many systems a memory has: a count beyond the array means the whole array.
-fn held(count: u8) -> usize
+pub fn held(count: u8) -> usize
     ensures { λ r. ⌜ r ≡ min count maxSystems ⌝ }
 {
     if count < 16 { count as usize } else { 16 }
