@@ -88,6 +88,12 @@ module _ (l : List System) where
         go (yes k) = never (sym (hop→on-chain a q i k h) ∙ e)
         go (no k) = let z = hop-past l (steps l q) (suc i) q (omega arith) steps-end in omega arith
 
+    -- nor is it the place itself, where that is another
+    pub off-path : (a i : ℕ) → 0 < a → (q ≡ a → ⊥) → onChain l a q ≡ false → hop l i q ≡ a → ⊥
+    unfolding hop
+    off-path a zero p n e h = n h
+    off-path a (suc i) p n e h = off-chain a i p e h
+
   pub steps-pred : (q : ℕ) → 0 < q → Ends l q → steps l q ≡ suc (steps l (predOf l q))
   unfolding hop
   steps-pred q p e =
