@@ -3,3 +3,4 @@ pub mod Copies
 pub mod Used
 pub mod Same
 pub mod Laid
+pub mod Reaching
