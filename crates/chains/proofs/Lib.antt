@@ -4,3 +4,4 @@ pub mod Used
 pub mod Same
 pub mod Laid
 pub mod Reaching
+pub mod Ready

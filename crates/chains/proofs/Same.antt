@@ -63,21 +63,24 @@ module _ (l k : List System) (e : predsOf l ≡ predsOf k) where
       over zero q = refl
       over (suc n) q = λ d. followed ((over n (predOf l q) ∙ ap (poseOver k n) (same-pred q)) d) (own q d)
 
--- ---- a list of systems and its flat numbers
+-- ---- flat links ps of a list of systems
+
+module _ (l : List System) (ps : List ℕ) (links : ps ≡ predsOf l) where
+  linked : predsOf (linkedBy ps) ≡ predsOf l
+  linked = map-map (λ (s : System). s .pred) linkedTo ps ∙ map-id ps ∙ links
+
+  pub links-no-ring : noRing (linkedBy ps) ≡ noRing l
+  links-no-ring = same-no-ring (linkedBy ps) l linked
+
+  pub links-on-chain : (a q : ℕ) → onChain (linkedBy ps) a q ≡ onChain l a q
+  links-on-chain = same-on-chain (linkedBy ps) l linked
+
+  pub links-in-use : (e : Enabled) (k : ℕ) → inUse (memoryBy ps e) k ≡ inUse (record { systems = l; enabled = e }) k
+  links-in-use = same-in-use (linkedBy ps) l linked
+
+-- ---- the frames of a list of systems
 
 module _ (l : List System) where
-  preds-linked : predsOf (linkedBy (predsOf l)) ≡ predsOf l
-  preds-linked = map-map (λ (s : System). s .pred) linkedTo (predsOf l) ∙ map-id (predsOf l)
-
-  pub links-no-ring : noRing (linkedBy (predsOf l)) ≡ noRing l
-  links-no-ring = same-no-ring (linkedBy (predsOf l)) l preds-linked
-
-  pub links-on-chain : (a q : ℕ) → onChain (linkedBy (predsOf l)) a q ≡ onChain l a q
-  links-on-chain = same-on-chain (linkedBy (predsOf l)) l preds-linked
-
-  pub links-in-use : (e : Enabled) (k : ℕ) → inUse (memoryBy (predsOf l) e) k ≡ inUse (record { systems = l; enabled = e }) k
-  links-in-use = same-in-use (linkedBy (predsOf l)) l preds-linked
-
   preds-framed : predsOf (framesOf l) ≡ predsOf l
   preds-framed = map-map (λ (s : System). s .pred) frameOf l
 
