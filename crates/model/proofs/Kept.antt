@@ -66,9 +66,9 @@ module _ (st : State) (w : wellFormed st ≡ true) where
   module _ (k : Kind) (n : List ℕ) (t : Vec3) (u : Turns) where
     define-kept : LegalDefinition k n t u → Clear (changeLadder st m (define k n t u)) → memoryFine (put m (fresh m k n t u)) ≡ true
     unfolding changeLadder applies any fresh
-    define-kept legal off =
+    define-kept lawful off =
         let own : Own (fresh m k n t u) =
-        record { name = legal .name; free = rung _ (off 8); offset = legal .offsets; turns = legal .turns; flat = legal .flat } in
+        record { name = lawful .name; free = rung _ (off 8); offset = lawful .offsets; turns = lawful .turns; flat = lawful .flat } in
         fine-from _ (define-fine m fine k n t u (own-from (fresh m k n t u) own) (rung _ (off 10)) (rung _ (off 11)) (rung _ (off 13)))
 
   link-kept : (a b : List ℕ) → Clear (changeLadder st m (link a b)) → memoryFine (linked m a b) ≡ true
@@ -79,10 +79,10 @@ module _ (st : State) (w : wellFormed st ≡ true) where
 
   copy-kept : (s d : List ℕ) → legalName d ≡ true → Clear (changeLadder st m (copy s d)) → memoryFine (put m (withName (userNamed m s) d)) ≡ true
   unfolding changeLadder applies any
-  copy-kept s d legal off =
+  copy-kept s d lawful off =
       let eight = or-false (reserved s) (reserved d) (rung _ (off 8)) in
       let user = present-user m s (rung _ (off 7)) (eight .0) in
-      fine-from _ (copy-fine m fine s d user legal (eight .1) (rung _ (off 10)) (rung _ (off 12)) (rung _ (off 13)))
+      fine-from _ (copy-fine m fine s d user lawful (eight .1) (rung _ (off 10)) (rung _ (off 12)) (rung _ (off 13)))
 
   remove-kept : (a : List ℕ) → Clear (changeLadder st m (remove a)) → memoryFine (removedAt m (placeNamed (m .systems) a)) ≡ true
   unfolding changeLadder applies any

@@ -114,10 +114,6 @@ module _ (m : Memory) (n : List ℕ) where
       (λ u. rw (find-fixed m n u) (fixed-place groups n ∙ sym (user-none m n u)))
       (either (isUser m n))
 
-  pub named-user : isUser m n ≡ true → named m n ≡ userRef (m .systems) (placeNamed (m .systems) n)
-  unfolding refOr
-  named-user u = rw (find-user m n u)
-
   -- a system that is there, and whose name is not reserved, is a user system
   pub present-user : absent m n ≡ false → reserved n ≡ false → isUser m n ≡ true
   present-user a r =
