@@ -88,7 +88,8 @@ klt-read : reading (ascii "KLT?") ≡ asks (list resultants)
 unfolding definitions-open
 klt-read = refl
 
-klt-shown : (st : State) → wellFormed st ≡ true → Replies st (ascii "KLT?") (listing (map (resultantLine (st .volatile .systems)) (everySystem (st .volatile .systems))))
+klt-shown : (st : State) → wellFormed st ≡ true →
+    Replies st (ascii "KLT?") (listing (map (resultantLine (st .volatile .systems)) (everySystem (st .volatile .systems))))
 unfolding definitions-open
 klt-shown st w = query-replies st w (ascii "KLT?") resultants klt-read refl refl
 

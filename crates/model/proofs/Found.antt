@@ -82,7 +82,8 @@ module _ (m : Memory) (n : List ℕ) where
   fixed-is [] r e = absurd (let z : _≡_ {A = ℕ} 0 1 = cc in omega arith)
   fixed-is (g ∷ gs) r e = go (same n (ofGroup g .name)) refl e (fixed-is gs r)
     where
-      go : (t : Bool) → same n (ofGroup g .name) ≡ t → cond t (some (fixedRef g)) (fixedNamed gs n) ≡ some r → (fixedNamed gs n ≡ some r → IsSystem (m .systems) r × (nameOf (m .systems) r ≡ n)) → IsSystem (m .systems) r × (nameOf (m .systems) r ≡ n)
+      go : (t : Bool) → same n (ofGroup g .name) ≡ t → cond t (some (fixedRef g)) (fixedNamed gs n) ≡ some r →
+          (fixedNamed gs n ≡ some r → IsSystem (m .systems) r × (nameOf (m .systems) r ≡ n)) → IsSystem (m .systems) r × (nameOf (m .systems) r ≡ n)
       go true s e rec =
           let q : fixedRef g ≡ r = cc in
           (rw (← q) (fixed g), rw (← q) (sym (same→≡ n (ofGroup g .name) s)))
@@ -95,7 +96,8 @@ module _ (m : Memory) (n : List ℕ) where
       k : ℕ
       k = placeNamed (m .systems) n
 
-      go : (t : Bool) → isUser m n ≡ t → cond t (some (userRef (m .systems) k)) (fixedNamed groups n) ≡ some r → IsSystem (m .systems) r × (nameOf (m .systems) r ≡ n)
+      go : (t : Bool) → isUser m n ≡ t → cond t (some (userRef (m .systems) k)) (fixedNamed groups n) ≡ some r →
+          IsSystem (m .systems) r × (nameOf (m .systems) r ≡ n)
       go true u e =
           let h = user-place m n u in
           let q : userRef (m .systems) k ≡ r = cc in

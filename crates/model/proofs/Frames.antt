@@ -15,8 +15,8 @@ use Rattle.model.specs.Effects.{mendedPart, mendedEnabled}
 use Rattle.model.specs.Demand.{held, alone, heldPart, frames}
 use Rattle.model.proofs.Basics.{or-false}
 use Rattle.model.proofs.Hops.{ring-free}
-use Rattle.model.proofs.Steps.{Ends, off-path}
-use Rattle.model.proofs.Carry.{AlikeFrom, carried-held}
+use Rattle.model.proofs.Steps.{off-path}
+use Rattle.model.proofs.Carry.{Carried, carried-held}
 use Rattle.model.proofs.Relink.{Misses}
 use Rattle.model.proofs.Fine.{PartPlaced, Fine, placed-within}
 
@@ -32,7 +32,12 @@ pub record EachEnabled (P : ℕ → Type 0) (e : Enabled) : Type 0 where
   pub levelling : P (e .levelling)
 
 pub each-also : (P Q : ℕ → Type 0) (e : Enabled) → ((q : ℕ) → P q → Q q) → EachEnabled P e → EachEnabled Q e
-each-also P Q e f h = record { operating = part (e .operating) (h .operating); orientational = f (e .orientational) (h .orientational); levelling = f (e .levelling) (h .levelling) }
+each-also P Q e f h =
+    record {
+      operating = part (e .operating) (h .operating);
+      orientational = f (e .orientational) (h .orientational);
+      levelling = f (e .levelling) (h .levelling);
+    }
   where
     part : (o : OperatingPart) → PartHas P o → PartHas Q o
     part (Single p) h = f p h
@@ -52,19 +57,13 @@ each-both P Q e g h =
 
 -- ---- the frames
 
--- place q goes to place f q with its whole chain
-pub record Carried (m m′ : Memory) (f : ℕ → ℕ) (q : ℕ) : Type 0 where
-  pub alike : AlikeFrom (m .systems) (m′ .systems) f q
-  pub ends : Ends (m .systems) q
-  pub ends-after : Ends (m′ .systems) (f q)
-
 module _ (m m′ : Memory) (f : ℕ → ℕ) where
   carried-part : (o : OperatingPart) → PartHas (Carried m m′ f) o → heldPart m′ (mendedPart f o) ≡ heldPart m o
   unfolding heldPart mendedPart
-  carried-part (Single p) h = ap alone (carried-held m m′ f Operating p (h .alike) (h .ends) (h .ends-after))
+  carried-part (Single p) h = ap alone (carried-held m m′ f Operating p h)
   carried-part (Pair w t) h =
-      let a = carried-held m m′ f Operating w (h .0 .alike) (h .0 .ends) (h .0 .ends-after) in
-      let b = carried-held m m′ f Operating t (h .1 .alike) (h .1 .ends) (h .1 .ends-after) in
+      let a = carried-held m m′ f Operating w (h .0) in
+      let b = carried-held m m′ f Operating t (h .1) in
       cc
 
   pub carried-frames : m′ .enabled ≡ mendedEnabled f (m .enabled) → EachEnabled (Carried m m′ f) (m .enabled) → frames m′ ≡ frames m
@@ -73,9 +72,10 @@ module _ (m m′ : Memory) (f : ℕ → ℕ) where
       let o : heldPart m′ (m′ .enabled .operating) ≡ heldPart m (m .enabled .operating) =
       ap (λ (e : Enabled). heldPart m′ (e .operating)) e ∙ carried-part (m .enabled .operating) (c .operating) in
       let r : held m′ (inGroup Orientational (m′ .enabled .orientational)) ≡ held m (inGroup Orientational (m .enabled .orientational)) =
-      ap (λ (e : Enabled). held m′ (inGroup Orientational (e .orientational))) e ∙ carried-held m m′ f Orientational (m .enabled .orientational) (c .orientational .alike) (c .orientational .ends) (c .orientational .ends-after) in
+      ap (λ (e : Enabled). held m′ (inGroup Orientational (e .orientational))) e
+      ∙ carried-held m m′ f Orientational (m .enabled .orientational) (c .orientational) in
       let v : held m′ (inGroup Levelling (m′ .enabled .levelling)) ≡ held m (inGroup Levelling (m .enabled .levelling)) =
-      ap (λ (e : Enabled). held m′ (inGroup Levelling (e .levelling))) e ∙ carried-held m m′ f Levelling (m .enabled .levelling) (c .levelling .alike) (c .levelling .ends) (c .levelling .ends-after) in
+      ap (λ (e : Enabled). held m′ (inGroup Levelling (e .levelling))) e ∙ carried-held m m′ f Levelling (m .enabled .levelling) (c .levelling) in
       λ i. record { operating = o i; orientational = r i; levelling = v i }
 
 -- nothing moves where no place does
@@ -120,7 +120,8 @@ module _ (m : Memory) (fine : Fine m) where
       meets : ℕ → Bool
       meets q = eqb k q || onChain l k q
 
-      tests : (o : OperatingPart) → any (λ (r : Ref). meets (r .place)) (map (inGroup Operating) (operatingPlaces o) ++ (inGroup Orientational (m .enabled .orientational) ∷ inGroup Levelling (m .enabled .levelling) ∷ [])) ≡ false →
+      tests : (o : OperatingPart) →
+          any (λ (r : Ref). meets (r .place)) (map (inGroup Operating) (operatingPlaces o) ++ (inGroup Orientational (m .enabled .orientational) ∷ inGroup Levelling (m .enabled .levelling) ∷ [])) ≡ false →
           EachEnabled (λ q. meets q ≡ false) (record { operating = o; orientational = m .enabled .orientational; levelling = m .enabled .levelling })
       tests (Single p) e =
           let a = or-false (meets p) _ e in

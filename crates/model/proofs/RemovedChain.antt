@@ -40,7 +40,9 @@ module _ (l : List System) (a : ℕ) (pos : 0 < a) (there : a ≤ length l) (pla
   ends q h = ring-free l free q h
 
   ends-after : (q : ℕ) → q ≤ length l → Ends l′ (f q)
-  ends-after q h = ring-free l′ (removed-no-ring l a pos there places free) (f q) (rw (without-length l a pos there) (mended-in-range a p pos (length l) q there (places a) own h))
+  ends-after q h =
+      ring-free l′ (removed-no-ring l a pos there places free) (f q)
+      (rw (without-length l a pos there) (mended-in-range a p pos (length l) q there (places a) own h))
 
   -- what went has the new place of its predecessor
   gone : f a ≡ f p
@@ -85,11 +87,12 @@ module _ (l : List System) (a : ℕ) (pos : 0 < a) (there : a ≤ length l) (pla
       go (yes e) =
           let fewer-gone = after-gone .0 in
           let at-a : steps l (predOf l q) ≡ steps l a = rw e in
+          let r = rec p (omega (arith, fewer, fewer-gone)) (places a) own in
           begins q h k n
-          ∙ rw (e, gone, rec p (omega (arith, fewer, fewer-gone)) (places a) own, chain-pred l q k (ends q h), e, after-gone .1, kept-gone (p ∷ chain l p), kept-other p (chain l p) own)
+          ∙ rw (e, gone, r, chain-pred l q k (ends q h), e, after-gone .1, kept-gone (p ∷ chain l p), kept-other p (chain l p) own)
       go (no e) =
-          begins q h k n
-          ∙ rw (rec (predOf l q) (omega (arith, fewer)) (pred-in-range l places q) e, chain-pred l q k (ends q h), kept-other (predOf l q) (chain l (predOf l q)) e)
+          let r = rec (predOf l q) (omega (arith, fewer)) (pred-in-range l places q) e in
+          begins q h k n ∙ rw (r, chain-pred l q k (ends q h), kept-other (predOf l q) (chain l (predOf l q)) e)
 
   law : (n q : ℕ) → steps l q ≤ n → q ≤ length l → (q ≡ a → ⊥) → Law q
   unfolding hop
@@ -104,12 +107,14 @@ module _ (l : List System) (a : ℕ) (pos : 0 < a) (there : a ≤ length l) (pla
       go (no e) rec = law-link q h (omega arith) n rec
 
   -- the places of a chain, mended
-  pub removed-chain : (q : ℕ) → q ≤ length l → (q ≡ a → ⊥) → chain (without l a) (mended a (systemAt l a .pred) q) ≡ map (mended a (systemAt l a .pred)) (kept (λ x. not (eqb x a)) (chain l q))
+  pub removed-chain : (q : ℕ) → q ≤ length l → (q ≡ a → ⊥) →
+      chain (without l a) (mended a (systemAt l a .pred) q) ≡ map (mended a (systemAt l a .pred)) (kept (λ x. not (eqb x a)) (chain l q))
   removed-chain q = law (steps l q) q (omega arith)
 
   -- by name
   pub removed-names : (g : Group) (q : ℕ) → q ≤ length l → (q ≡ a → ⊥) →
-      map (λ x. nameOf (without l a) (inGroup g x)) (chain (without l a) (mended a (systemAt l a .pred) q)) ≡ map (λ x. nameOf l (inGroup g x)) (kept (λ x. not (eqb x a)) (chain l q))
+      map (λ x. nameOf (without l a) (inGroup g x)) (chain (without l a) (mended a (systemAt l a .pred) q))
+      ≡ map (λ x. nameOf l (inGroup g x)) (kept (λ x. not (eqb x a)) (chain l q))
   unfolding kept
   removed-names g q h n = ap (map (λ x. nameOf l′ (inGroup g x))) (removed-chain q h n) ∙ each (chain l q)
     where
@@ -155,7 +160,8 @@ module _ (l : List System) (a : ℕ) (pos : 0 < a) (there : a ≤ length l) (pla
           at zero lt y = absurd (e y)
           at (suc i) lt y = hop→on-chain l a x i (omega (arith, steps-pred l q k (ends q h))) y
 
-      go : Dec (q ≡ 0) → Dec (x ≡ a) → (steps l x ≤ m → x ≤ length l → (x ≡ a → ⊥) → onChain l a x ≡ true → suc (steps l′ (f x)) ≡ steps l x) → suc (steps l′ (f q)) ≡ steps l q
+      go : Dec (q ≡ 0) → Dec (x ≡ a) → (steps l x ≤ m → x ≤ length l → (x ≡ a → ⊥) → onChain l a x ≡ true → suc (steps l′ (f x)) ≡ steps l x) →
+          suc (steps l′ (f q)) ≡ steps l q
       go (yes z) d rec = let w = on-chain→hop l a q on in absurd (let y : steps l q ≡ 0 = rw z (steps-zero l) in omega (arith, w .1))
       go (no z) (yes e) rec =
           let same : steps l′ (f p) ≡ steps l p = removed-steps-off p (places a) missed in
@@ -168,5 +174,6 @@ module _ (l : List System) (a : ℕ) (pos : 0 < a) (there : a ≤ length l) (pla
           let r = rec (omega arith) (pred-in-range l places q) e (later (omega arith) e) in
           omega arith
 
-  pub removed-steps-on : (q : ℕ) → q ≤ length l → (q ≡ a → ⊥) → onChain l a q ≡ true → suc (steps (without l a) (mended a (systemAt l a .pred) q)) ≡ steps l q
+  pub removed-steps-on : (q : ℕ) → q ≤ length l → (q ≡ a → ⊥) → onChain l a q ≡ true →
+      suc (steps (without l a) (mended a (systemAt l a .pred) q)) ≡ steps l q
   removed-steps-on q = fewer-law (steps l q) q (omega arith)

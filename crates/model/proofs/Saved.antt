@@ -1,10 +1,10 @@
 -- The checklist's fourth item: what an accepted WPA saved is back after a restart or a start from the image, and every listing with it.
 use Prim.Native.Nat.{ℕ, _≤_}
 use mathlib.Core.Path.{_≡_, refl, sym, ap, _∙_}
-use mathlib.Core.List.{List, [], _∷_}
-use mathlib.Core.Bool.{Bool, true, false, cond, not, _&&_}
+use mathlib.Core.List.{List}
+use mathlib.Core.Bool.{Bool, true, false, cond}
 use native.Mathlib.Omega.{arith}
-use borrow.Author.Tests.{not-true, le-ltb, eqb-true}
+use borrow.Author.Tests.{le-ltb, eqb-true}
 use lib.Dec.{eqb}
 use lib.ListN.{length, take, drop}
 use lib.Seq.{take-append-seam}
@@ -20,8 +20,8 @@ use Rattle.model.specs.Machine.{Outcome, Begun, written, carriedOut, ste
 use Rattle.model.specs.Trace.{Line, afterLines}
 use Rattle.model.specs.Demand.{noneTaken}
 use Rattle.model.specs.Checklist.{asksToSave, ListsAlike, SavedComesBack}
-use Rattle.model.proofs.Basics.{and-split}
-use Rattle.model.proofs.Refusing.{by-case, carried-number, step-fine, step-number, judged-refused, restart-fine, image-fine}
+use Rattle.model.proofs.Refusing.{by-case, step-fine, step-number, judged-refused, restart-fine, image-fine}
+use Rattle.model.proofs.Untaken.{untaken-lines}
 use Rattle.model.proofs.Queries.{query-taken}
 use Rattle.model.proofs.Fine.{state-of}
 use Rattle.model.proofs.Exact.{start-some}
@@ -47,29 +47,16 @@ permanent-read st (asks (change reset)) b = refl
 permanent-read st (asks (list q)) b = refl
 permanent-read st (asks lastError) b = refl
 
-saved-line : (st : State) (line b : List ℕ) → asksToSave (reading line) ≡ true → stepped st line b .number ≡ 0 → stepped st line b .state .permanent ≡ st .volatile
+saved-line : (st : State) (line b : List ℕ) → asksToSave (reading line) ≡ true → stepped st line b .number ≡ 0 →
+    stepped st line b .state .permanent ≡ st .volatile
 saved-line st line b s =
     by-case st line b (λ o. o .number ≡ 0 → o .state .permanent ≡ st .volatile)
     (λ w z. absurd (omega arith))
     (λ n h h′ z. absurd (omega arith))
     (λ w z e. permanent-read st (reading line) b ∙ rw s)
 
-unsaved-line : (st : State) (line b : List ℕ) → not (eqb (stepped st line b .number) 0 && asksToSave (reading line)) ≡ true → stepped st line b .state .permanent ≡ st .permanent
-unsaved-line st line b =
-    by-case st line b (λ o. not (eqb (o .number) 0 && asksToSave (reading line)) ≡ true → o .state .permanent ≡ st .permanent)
-    (λ w e. refl)
-    (λ n h h′ e. refl)
-    (λ w z e. permanent-read st (reading line) b ∙ rw (kind e))
-  where
-    kind : not (eqb (carriedOut st (reading line) b .number) 0 && asksToSave (reading line)) ≡ true → asksToSave (reading line) ≡ false
-    kind e = rw (carried-number st (reading line) b) at (not-true (eqb (carriedOut st (reading line) b .number) 0 && asksToSave (reading line)) e)
-
 unsaved-lines : (st : State) (cs : List Line) → noneTaken asksToSave st cs ≡ true → afterLines st cs .permanent ≡ st .permanent
-unfolding noneTaken afterLines
-unsaved-lines st [] s = refl
-unsaved-lines st (c ∷ cs) s =
-    let h = and-split (not (eqb (stepped st (c .bytes) (c .buffer) .number) 0 && asksToSave (reading (c .bytes)))) _ s in
-    unsaved-lines (stepped st (c .bytes) (c .buffer) .state) cs (h .1) ∙ unsaved-line st (c .bytes) (c .buffer) (h .0)
+unsaved-lines = untaken-lines asksToSave (λ st. st .permanent) (λ st n. refl) (λ st line b w z e. permanent-read st (reading line) b ∙ rw e)
 
 -- ---- listings depend on the volatile memory alone
 
@@ -81,8 +68,12 @@ module _ (line b : List ℕ) (q : Query) (asked : reading line ≡ asks (list q)
   -- what is written, by whether it is accepted
   query-parts : (st : State) → wellFormed st ≡ true → (t : Bool) → eqb (refusal st line b) 0 ≡ t →
       (stepped st line b .count ≡ cond t (length (listed (st .volatile) q)) 0) × (stepped st line b .buffer ≡ cond t (written (listed (st .volatile) q) b) b)
-  query-parts st w true e = let o = query-taken st w line q asked b (eqb-true (refusal st line b) 0 e) in (ap (λ (o : Outcome). o .count) o, ap (λ (o : Outcome). o .buffer) o)
-  query-parts st w false e = let o = step-fine st line b w ∙ judged-refused st (refusal st line b) line b e in (ap (λ (o : Outcome). o .count) o, ap (λ (o : Outcome). o .buffer) o)
+  query-parts st w true e =
+      let o = query-taken st w line q asked b (eqb-true (refusal st line b) 0 e) in
+      (ap (λ (o : Outcome). o .count) o, ap (λ (o : Outcome). o .buffer) o)
+  query-parts st w false e =
+      let o = step-fine st line b w ∙ judged-refused st (refusal st line b) line b e in
+      (ap (λ (o : Outcome). o .count) o, ap (λ (o : Outcome). o .buffer) o)
 
 lists-alike : (st st′ : State) → wellFormed st ≡ true → wellFormed st′ ≡ true → st′ .volatile ≡ st .volatile → ListsAlike st st′
 lists-alike st st′ w w′ e line b q asked =
@@ -95,7 +86,8 @@ lists-alike st st′ w w′ e line b q asked =
 -- ---- back
 
 -- an image written and read again, of a well-formed state
-image-back : (st : State) → wellFormed st ≡ true → (b : List ℕ) → bufferLimit ≤ length b → startImage (take (writeImage st b .count) (writeImage st b .buffer)) .state ≡ started (st .permanent)
+image-back : (st : State) → wellFormed st ≡ true → (b : List ℕ) → bufferLimit ≤ length b →
+    startImage (take (writeImage st b .count) (writeImage st b .buffer)) .state ≡ started (st .permanent)
 unfolding short
 image-back st w b h =
     let m = st .permanent in

@@ -20,10 +20,9 @@ use Rattle.model.specs.Refusals.{first, unreadable, queryLadder}
 use Rattle.model.specs.Reply.{everySystem, linkLine, listed}
 use Rattle.model.specs.Checklist.{Allowed, OneOrPair, one, work-and-tool, OneInEachGroup, below, followedDown, Down, LeadsDown}
 use Rattle.model.proofs.Open.{definitions-open}
-use Rattle.model.proofs.Basics.{true-false, ≡→same}
+use Rattle.model.proofs.Basics.{true-false, ≡→same, table-cong, map-table}
 use Rattle.model.proofs.Hops.{hop-zero, ring-free}
 use Rattle.model.proofs.Steps.{Ends, chain-length, steps-zero, steps-end, steps-within, steps-pred}
-use Rattle.model.proofs.Carry.{table-cong, map-table}
 use Rattle.model.proofs.Fine.{Placed, PartPlaced, Fine, state-of, fine-of}
 use Rattle.model.proofs.Found.{IsSystem, fixed, user, is-found, found-is}
 use Rattle.model.proofs.Queries.{query-replies}
@@ -44,17 +43,20 @@ module _ (l : List System) (k : Kind) where
   user-type zero h p = absurd (omega arith)
   user-type (suc i) h p = ap (λ (k : Kind). ofKind k .shown) (p h .1)
 
-  placed-type : (types : List (List ℕ)) → oneOf types (ofGroup (ofKind k .group) .shown) ≡ true → oneOf types (ofKind k .shown) ≡ true → (q : ℕ) → Placed l k q → oneOf types (typeOf l (inGroup (ofKind k .group) q)) ≡ true
+  placed-type : (types : List (List ℕ)) → oneOf types (ofGroup (ofKind k .group) .shown) ≡ true → oneOf types (ofKind k .shown) ≡ true → (q : ℕ) →
+      Placed l k q → oneOf types (typeOf l (inGroup (ofKind k .group) q)) ≡ true
   unfolding typeOf
   placed-type types a b zero h = a
   placed-type types a b (suc i) h = rw (user-type (suc i) (omega arith) h) b
 
 module _ (m : Memory) (fine : Fine m) where
-  allowed : (k : Kind) (types : List (List ℕ)) → oneOf types (ofGroup (ofKind k .group) .shown) ≡ true → oneOf types (ofKind k .shown) ≡ true → (q : ℕ) → Placed (m .systems) k q → Allowed m types (inGroup (ofKind k .group) q)
+  allowed : (k : Kind) (types : List (List ℕ)) → oneOf types (ofGroup (ofKind k .group) .shown) ≡ true → oneOf types (ofKind k .shown) ≡ true →
+      (q : ℕ) → Placed (m .systems) k q → Allowed m types (inGroup (ofKind k .group) q)
   allowed k types a b q h = record { present = is-found m fine (placed-system (m .systems) k q h); allowed = placed-type (m .systems) k types a b q h }
 
   -- a user system's type is not ZERO
-  not-zero : (k : Kind) → same (ofKind k .shown) (ascii "ZERO") ≡ false → (q : ℕ) → 0 < q → Placed (m .systems) k q → typeOf (m .systems) (inGroup (ofKind k .group) q) ≡ ascii "ZERO" → ⊥
+  not-zero : (k : Kind) → same (ofKind k .shown) (ascii "ZERO") ≡ false → (q : ℕ) → 0 < q → Placed (m .systems) k q →
+      typeOf (m .systems) (inGroup (ofKind k .group) q) ≡ ascii "ZERO" → ⊥
   not-zero k d q h p e = true-false (sym (≡→same (sym (user-type (m .systems) k q h p) ∙ e)) ∙ d)
 
   one-or-pair : (o : OperatingPart) → PartPlaced (m .systems) o → OneOrPair m (map (inGroup Operating) (operatingPlaces o))
@@ -100,7 +102,8 @@ module _ (m : Memory) (fine : Fine m) where
   pred-system zero h = absurd (omega arith)
   pred-system (suc i) h = placed-system (m .systems) _ (systemAt (m .systems) (suc i) .pred) (fine .systems .preds (suc i))
 
-  pred-name : (k : ℕ) → 0 < k → predName (m .systems) (userRef (m .systems) k) ≡ nameOf (m .systems) (inGroup (ofKind (systemAt (m .systems) k .kind) .group) (predOf (m .systems) k))
+  pred-name : (k : ℕ) → 0 < k →
+      predName (m .systems) (userRef (m .systems) k) ≡ nameOf (m .systems) (inGroup (ofKind (systemAt (m .systems) k .kind) .group) (predOf (m .systems) k))
   unfolding predName predOf
   pred-name zero h = absurd (omega arith)
   pred-name (suc i) h = refl
@@ -110,7 +113,8 @@ module _ (m : Memory) (fine : Fine m) where
   system-ends (user k h) = ring-free (m .systems) (fine .ringless) k (h .1)
 
   -- so many lines lead where so many links do, while the chain lasts
-  passes : (i : ℕ) {r : Ref} → IsSystem (m .systems) r → i ≤ steps (m .systems) (r .place) → followedDown m i (nameOf (m .systems) r) ≡ nameOf (m .systems) (inGroup (r .group) (hop (m .systems) i (r .place)))
+  passes : (i : ℕ) {r : Ref} → IsSystem (m .systems) r → i ≤ steps (m .systems) (r .place) →
+      followedDown m i (nameOf (m .systems) r) ≡ nameOf (m .systems) (inGroup (r .group) (hop (m .systems) i (r .place)))
   unfolding followedDown hop
   passes zero s h = refl
   passes (suc i) (fixed g) h = absurd (omega (arith, steps-zero (m .systems)))
@@ -129,7 +133,9 @@ module _ (m : Memory) (fine : Fine m) where
       λ i h. ap (followedDown m i) (sym (f .1)) ∙ passes i (f .0) (rw c at h) in
       record {
         passes = pass;
-        ends = pass (length (chain l (r .place))) (omega arith) ∙ ap (λ x. nameOf l (inGroup (r .group) x)) (ap (λ i. hop l i (r .place)) c ∙ steps-end l (r .place) end);
+        ends =
+            pass (length (chain l (r .place))) (omega arith)
+            ∙ ap (λ x. nameOf l (inGroup (r .group) x)) (ap (λ i. hop l i (r .place)) c ∙ steps-end l (r .place) end);
         few = omega (arith, c, steps-within l (r .place) end, fine .systems .few);
       }
 

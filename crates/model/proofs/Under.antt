@@ -100,14 +100,18 @@ module _ (m : Memory) (fine : Fine m) (n : List ℕ) (found : isUser m n ≡ tru
           ⊎-elim (λ a. or-left (meets p) _ (under-meets Operating p h a)) (λ a. or-right (meets p) _ (last a))
           (or-split (under (held m (inGroup Operating p)) n) _ e)
       parts (Pair w t) h e =
-          ⊎-elim (λ a. ⊎-elim (λ b. or-left (meets w) _ (under-meets Operating w (h .0) b)) (λ b. or-right (meets w) _ (or-left (meets t) _ (under-meets Operating t (h .1) b))) (or-split (under (held m (inGroup Operating w)) n) _ a))
+          ⊎-elim (λ a.
+          ⊎-elim (λ b. or-left (meets w) _ (under-meets Operating w (h .0) b))
+          (λ b. or-right (meets w) _ (or-left (meets t) _ (under-meets Operating t (h .1) b)))
+          (or-split (under (held m (inGroup Operating w)) n) _ a))
           (λ a. or-right (meets w) _ (or-right (meets t) _ (last a)))
           (or-split (under (held m (inGroup Operating w)) n || under (held m (inGroup Operating t)) n) _ e)
 
 -- ---- the refusal
 
 -- a change of that system meets rung 11
-touched-eleven : (st : State) (n : List ℕ) → nameInUse (st .volatile) n ≡ true → (c : Change) → touches c n ≡ true → applies 11 (changeLadder st (st .volatile) c) ≡ true
+touched-eleven : (st : State) (n : List ℕ) → nameInUse (st .volatile) n ≡ true → (c : Change) → touches c n ≡ true →
+    applies 11 (changeLadder st (st .volatile) c) ≡ true
 unfolding touches applies any changeLadder
 touched-eleven st n u (define k d t v) e = or-left (nameInUse (st .volatile) d) _ (ap (nameInUse (st .volatile)) (same→≡ d n e) ∙ u)
 touched-eleven st n u (link d b) e = or-left (nameInUse (st .volatile) d) _ (ap (nameInUse (st .volatile)) (same→≡ d n e) ∙ u)
@@ -119,7 +123,8 @@ touched-eleven st n u save e = true-false (sym e)
 touched-eleven st n u restore e = true-false (sym e)
 touched-eleven st n u reset e = true-false (sym e)
 
-ladder-eleven : (st : State) (line b : List ℕ) (c : Change) → reading line ≡ asks (change c) → applies 11 (changeLadder st (st .volatile) c) ≡ true → applies 11 (ladder st line b) ≡ true
+ladder-eleven : (st : State) (line b : List ℕ) (c : Change) → reading line ≡ asks (change c) → applies 11 (changeLadder st (st .volatile) c) ≡ true →
+    applies 11 (ladder st line b) ≡ true
 unfolding applies any ladder readingLadder requestLadder
 ladder-eleven st line b c r e = rw r e
 

@@ -66,12 +66,9 @@ pub record Held : Type 0 where
 unfoldable pub held : Memory → Ref → Held
 held m r =
     let l = m .systems in
-    record {
-      name = nameOf l r;
-      chain = map (λ q. nameOf l (inGroup (r .group) q)) (package.Rattle.model.specs.Chain.chain l (r .place));
-      resultant = package.Rattle.model.specs.Chain.resultant l (r .place);
-      steps = length (package.Rattle.model.specs.Chain.chain l (r .place));
-    }
+    let places = chain l (r .place) in
+    let pose = resultant l (r .place) in
+    record { name = nameOf l r; chain = map (λ q. nameOf l (inGroup (r .group) q)) places; resultant = pose; steps = length places }
 
 -- one system, or work and tool
 pub data HeldPart : Type 0 where
