@@ -1,0 +1,2 @@
+// The memories of the machine: finding a system by its name, the test for well-formedness, and the edits.
+pub mod names;

@@ -1,0 +1,56 @@
+// Names and texts: the same bytes, and what makes a name legal. A length beyond its array means the whole array.
+use model::Name;
+ghost use mathlib.Core.Path.{_≡_};
+ghost use Prim.Native.Nat.{min};
+ghost use Rattle.model.specs.Lists.{same};
+ghost use Rattle.model.specs.Words.{capital, nameByte, legalName, reserved};
+ghost use Rattle.model.specs.Stored.{bytesOf};
+
+// How many of an array's 16 elements a stored length or count takes.
+pub fn clipped(n: u8) -> usize
+    ensures { λ r. ⌜ r ≡ min n 16 ⌝ }
+{
+    if 16 < n {
+        return 16;
+    }
+    n as usize
+}
+
+pub fn same_bytes(a: &[u8], b: &[u8]) -> bool
+    ensures { λ r. ⌜ r ≡ same (now (a .entry)) (now (b .entry)) ⌝ }
+{
+    let n = a.len();
+    if n != b.len() {
+        return false;
+    }
+    let mut i = 0;
+    while i < n {
+        if a[i] != b[i] {
+            return false;
+        }
+        i += 1;
+    }
+    true
+}
+
+pub fn same_name(a: Name, b: Name) -> bool
+    ensures { λ r. ⌜ r ≡ same (bytesOf a) (bytesOf b) ⌝ }
+{
+    let m = clipped(a.len);
+    let n = clipped(b.len);
+    let x = a.bytes;
+    let y = b.bytes;
+    same_bytes(&x[..m], &y[..n])
+}
+
+fn capital_byte(b: u8) -> bool
+    ensures { λ r. ⌜ r ≡ capital b ⌝ }
+{
+    (65 <= b) & (b <= 90)
+}
+
+fn name_byte(b: u8) -> bool
+    ensures { λ r. ⌜ r ≡ nameByte b ⌝ }
+{
+    capital_byte(b) | ((48 <= b) & (b <= 57)) | (b == 95)
+}
