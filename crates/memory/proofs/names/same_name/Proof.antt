@@ -1,42 +1,46 @@
+use mathlib.Core.Path.{_≡_, _∙_}
+use native.Mathlib.Omega.{arith}
 use borrow.Author.Needs.{needs}
+use lib.ListN.{length, take, length-take}
+use Rattle.model.specs.Lists.{same}
+use Rattle.model.specs.Stored.{bytesOf}
+use Rattle.memory.proofs.Laws.{take-clipped}
 use Rattle.memory.proofs.names.same_name.Statement.{statement}
 use Rattle.memory.proofs.names.same_name.Tie as tie
-use Rattle.memory.proofs.names.same_name.Reads as reads
-use Rattle.memory.proofs.names.same_name.Lts as lts
-use Rattle.memory.proofs.names.clipped.Reads as clipped-reads
-use Rattle.memory.proofs.names.same_bytes.Reads as same-bytes-reads
 
--- src/names.rt:39:9
+long-a : (c : tie.Start) → length (c .args .a .bytes) ≡ 16
+long-a c = search needs
+
+long-b : (c : tie.Start) → length (c .args .b .bytes) ≡ 16
+long-b c = search needs
+
 clipped-requires : tie.Need-clipped-requires
 clipped-requires c κs = search needs
 
--- src/names.rt:40:9
 clipped-requires-2 : tie.Need-clipped-requires-2
 clipped-requires-2 c κs = search needs
 
--- src/names.rt:43:16
 array-share-prefix-x : tie.Need-array-share-prefix-x
-array-share-prefix-x c = ?
+array-share-prefix-x c = omega (arith, long-a (c .before .before .before .before), c .before .before .before .clipped .ensures)
 
--- src/names.rt:43:16
 slice-aggregate-same-bytes : tie.Need-slice-aggregate-same-bytes
-slice-aggregate-same-bytes c = ?
+slice-aggregate-same-bytes c = let h = long-a (c .before .before .before .before .before) in simp length-take (omega (arith, c .before .before .before .before .clipped .ensures))
 
--- src/names.rt:43:25
 array-share-prefix-y : tie.Need-array-share-prefix-y
-array-share-prefix-y c = ?
+array-share-prefix-y c = omega (arith, long-b (c .before .before .before .before .before), c .before .before .before .clipped2 .ensures)
 
--- src/names.rt:43:25
 slice-aggregate-same-bytes-2 : tie.Need-slice-aggregate-same-bytes-2
-slice-aggregate-same-bytes-2 c = ?
+slice-aggregate-same-bytes-2 c = let h = long-b (c .before .before .before .before .before .before) in simp length-take (omega (arith, c .before .before .before .before .clipped2 .ensures))
 
--- src/names.rt:43:5
 same-bytes-requires : tie.Need-same-bytes-requires
 same-bytes-requires c κs = search needs
 
--- src/names.rt:36:1
 returns : tie.Need-returns
-returns c = ?
+returns c =
+    let s = c .before .before .before .before .before .before .before in
+    let ea = take-clipped (s .args .a .bytes) (s .args .a .len) _ (long-a s) (c .before .before .before .before .before .before .clipped .ensures) in
+    let eb = take-clipped (s .args .b .bytes) (s .args .b .len) _ (long-b s) (c .before .before .before .before .before .clipped2 .ensures) in
+    c .same-bytes .ensures ∙ rw (ea, eb)
 
 pub same-name-spec : {M : Type 1} → statement M
 same-name-spec =
