@@ -1,11 +1,12 @@
 -- Laws of lists that are held in arrays: a clipped length, and an element of what an array stands for.
-use Prim.Native.Nat.{ℕ, zero, suc, min, _≤_, _<_}
+use Prim.Native.Nat.{ℕ, zero, suc, _+_, min, _≤_, _<_}
 use mathlib.Core.Path.{_≡_, refl, sym, ap, _∙_}
 use mathlib.Core.List.{List, [], _∷_, map}
 use native.Mathlib.Omega.{arith}
 use native.Mathlib.Decide.{decLt}
-use lib.ListN.{length, take, getD, length-take, length-map, List·getD-map}
-use lib.Seq.{take-all, getD-take}
+use native.Mathlib.Numerals.{add-one}
+use lib.ListN.{length, take, getD, set, length-take, length-map, List·getD-map}
+use lib.Seq.{take-all, take-suc, take-suc-set, getD-take}
 use Rattle.model.specs.declared.System.{System as StoredSystem}
 use Rattle.model.specs.declared.Memory.{Memory as StoredMemory}
 use Rattle.model.specs.Memory.{blank}
@@ -32,6 +33,10 @@ pub getD-any : {A : Type 0} (l : List A) (i : ℕ) (d e : A) → i < length l �
 getD-any [] i d e h = absurd (omega arith)
 getD-any (x ∷ l) zero d e h = refl
 getD-any (x ∷ l) (suc i) d e h = getD-any l i d e (omega arith)
+
+-- an array that is filled in order with the elements of a list: one turn
+pub filled-turn : {A : Type 0} (xs l : List A) (i : ℕ) (v d : A) → i < length xs → i < length l → take i xs ≡ take i l → v ≡ getD l i d → take (i + 1) (set xs i v) ≡ take (i + 1) l
+filled-turn xs l i v d hx hl e ev = rw (add-one, take-suc-set xs i v, take-suc l i d, e, ev)
 
 -- ---- what a stored memory stands for
 
