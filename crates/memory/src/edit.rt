@@ -122,7 +122,10 @@ fn mended_part(a: u8, p: u8, o: OperatingPart) -> OperatingPart
 {
     match o {
         OperatingPart::Single(q) => OperatingPart::Single(mended_place(a, p, q)),
-        OperatingPart::Pair(w, t) => OperatingPart::Pair(mended_place(a, p, w), mended_place(a, p, t)),
+        OperatingPart::Pair(w, t) => OperatingPart::Pair(
+            mended_place(a, p, w),
+            mended_place(a, p, t),
+        ),
     }
 }
 

@@ -24,6 +24,7 @@ ghost use Rattle.memory.specs.Fine.{aloneFine, storedFine, storedAllFine
 
 // The limit of an own offset, either way.
 const LEAST: i64 = -1000000000;
+
 const MOST: i64 = 1000000000;
 
 fn offset_fine(z: i64) -> bool
@@ -109,7 +110,9 @@ fn enabled_fine(codes: &[u8], e: Enabled) -> bool
     ensures { λ r. ⌜ ((l : List SystemOf) → codesOf l ≡ now (codes .entry) → r ≡ enabledFine l e) ⌝ }
 {
     let operating = e.operating;
-    operating_fine(codes, operating) & is_kind(codes, Kind::Ksb, e.orientational) & is_kind(codes, Kind::Kld, e.levelling)
+    operating_fine(codes, operating)
+        & is_kind(codes, Kind::Ksb, e.orientational)
+        & is_kind(codes, Kind::Kld, e.levelling)
 }
 
 // All that goes by types: every stored system, and what is enabled.

@@ -1,79 +1,95 @@
+use Prim.Native.Nat.{ℕ, _+_, _*_, _-_, _≤_, _<_}
+use mathlib.Core.Path.{_≡_, sym, _∙_}
+use native.Mathlib.Omega.{arith}
+use borrow.Author.Needs.{needs}
+use lib.ListN.{length, getD}
+use Rattle.model.specs.Memory.{blank}
+use Rattle.model.specs.WellFormed.{namesDiffer}
+use Rattle.model.specs.Stored.{systemsOf}
+use Rattle.memory.proofs.Laws.{length-mapped, length-systems}
+use Rattle.memory.proofs.Differ.{alike, left, left-from, left-hit, left-miss, left-next, left-end, stored-alike}
 use Rattle.memory.proofs.fine.names_differ.Statement.{statement}
 use Rattle.memory.proofs.fine.names_differ.Tie as tie
-use Rattle.memory.proofs.fine.names_differ.Reads as reads
-use Rattle.memory.proofs.fine.names_differ.Lts as lts
-use Rattle.memory.proofs.names.clipped.Reads as clipped-reads
-use Rattle.memory.proofs.names.same_name.Reads as same-name-reads
 
 abbrev Inv-loop : tie.InvT-loop
-Inv-loop m count i₀ j₀ i j = ?
+Inv-loop m count i₀ j₀ i j = (i ≤ count) × (i < j) × (namesDiffer (systemsOf m) ≡ left (systemsOf m) i j)
 
 abbrev μ-loop : tie.MeasureT-loop
-μ-loop m count i₀ j₀ i j = ?
+μ-loop m count i₀ j₀ i j = (count - i) * 17 + (count - j)
 
--- src/fine.rt:133:9
+long : (c : tie.Start Inv-loop μ-loop) → length (c .args .t1 .systems) ≡ 16
+long c = search (length-mapped, needs)
+
+-- the two names are those at i and j
+compared : (c : tie.After-same-name Inv-loop μ-loop) → alike (systemsOf (c .before .before .before .before .before .before .before .before .before .args .t1)) (c .before .before .before .before .before .before .before .loop .i) (getD (systemsOf (c .before .before .before .before .before .before .before .before .before .args .t1)) (c .before .before .before .before .before .before .before .loop .j) blank) ≡ c .same-name .result
+compared c =
+    let l = c .before .before .before .before .before .before .before in
+    let s = c .before .before .before .before .before .before .before .before .before in
+    stored-alike (s .args .t1) _ (long s) (l .before .clipped .ensures) (l .loop .i) (l .loop .j) _ _ (c .before .before .before .before .before .before .loop-test .taken) (c .before .before .before .before .before .if1 .taken)
+    ∙ sym (c .same-name .ensures)
+
+count : (c : tie.At-loop Inv-loop μ-loop) → length (systemsOf (c .before .before .args .t1)) ≡ c .before .clipped .result
+count c = length-systems (c .before .before .args .t1) _ (long (c .before .before)) (c .before .clipped .ensures)
+
 clipped-requires : tie.Need-clipped-requires Inv-loop μ-loop
-clipped-requires c κs = ?
+clipped-requires c κs = search needs
 
--- src/fine.rt:136:5
 loop-holds : tie.Need-loop-holds Inv-loop μ-loop
-loop-holds c = ?
+loop-holds c = (search needs, search needs, left-from _ 0)
 
--- src/fine.rt:138:21
 mul-s : tie.Need-mul-s Inv-loop μ-loop
-mul-s c = ?
+mul-s c = search needs
 
--- src/fine.rt:138:21
 element-copy-out-s : tie.Need-element-copy-out-s Inv-loop μ-loop
-element-copy-out-s c = ?
+element-copy-out-s c = search needs
 
--- src/fine.rt:140:21
 mul-t : tie.Need-mul-t Inv-loop μ-loop
-mul-t c = ?
+mul-t c = search needs
 
--- src/fine.rt:140:21
 element-copy-out-t : tie.Need-element-copy-out-t Inv-loop μ-loop
-element-copy-out-t c = ?
+element-copy-out-t c = search needs
 
--- src/fine.rt:142:16
 same-name-requires : tie.Need-same-name-requires Inv-loop μ-loop
-same-name-requires c κs = ?
+same-name-requires c κs = search needs
 
--- src/fine.rt:143:17
 returns : tie.Need-returns Inv-loop μ-loop
-returns c = ?
+returns c =
+    let l = c .before .before .before .before .before .before .before .before in
+    let n = count l in
+    sym (l .loop .inv .2 ∙ left-hit _ (l .loop .i) (l .loop .j) (omega arith) (compared (c .before) ∙ c .if2 .taken))
 
--- src/fine.rt:145:13
 add-j : tie.Need-add-j Inv-loop μ-loop
-add-j c = ?
+add-j c = search needs
 
--- src/fine.rt:136:5
 loop-less : tie.Need-loop-less Inv-loop μ-loop
-loop-less c = ?
+loop-less c = search needs
 
--- src/fine.rt:136:5
 loop-again : tie.Need-loop-again Inv-loop μ-loop
-loop-again c = ?
+loop-again c =
+    let l = c .before .before .before .before .before .before .before .before in
+    let n = count l in
+    (omega arith, omega arith, l .loop .inv .2 ∙ left-miss _ (l .loop .i) (l .loop .j) (omega arith) (compared (c .before) ∙ c .if2 .left))
 
--- src/fine.rt:147:13
 add-i : tie.Need-add-i Inv-loop μ-loop
-add-i c = ?
+add-i c = search needs
 
--- src/fine.rt:148:17
 add-j-2 : tie.Need-add-j-2 Inv-loop μ-loop
-add-j-2 c = ?
+add-j-2 c = search needs
 
--- src/fine.rt:136:5
 loop-less-2 : tie.Need-loop-less-2 Inv-loop μ-loop
-loop-less-2 c = ?
+loop-less-2 c = search needs
 
--- src/fine.rt:136:5
 loop-again-2 : tie.Need-loop-again-2 Inv-loop μ-loop
-loop-again-2 c = ?
+loop-again-2 c =
+    let l = c .before .before in
+    let n = count l in
+    (omega arith, omega arith, l .loop .inv .2 ∙ left-next _ (l .loop .i) (l .loop .j) (omega arith))
 
--- src/fine.rt:130:1
 returns-2 : tie.Need-returns-2 Inv-loop μ-loop
-returns-2 c = ?
+returns-2 c =
+    let l = c .before in
+    let n = count l in
+    sym (l .loop .inv .2 ∙ left-end _ (l .loop .i) (l .loop .j) (omega arith) (l .loop .inv .1))
 
 pub names-differ-spec : {M : Type 1} → statement M
 names-differ-spec =

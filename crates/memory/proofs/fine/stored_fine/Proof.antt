@@ -1,30 +1,30 @@
+use mathlib.Core.Path.{sym, _∙_}
 use borrow.Author.Needs.{needs}
+use borrow.Author.Tests.{not-true, not-false, le-leb, lt-leb}
+use Rattle.model.specs.Memory.{System}
+use Rattle.model.specs.Stored.{systemOf}
+use Rattle.memory.specs.Fine.{storedFine}
+use Rattle.memory.proofs.Judged.{alone-and-link}
 use Rattle.memory.proofs.fine.stored_fine.Statement.{statement}
 use Rattle.memory.proofs.fine.stored_fine.Tie as tie
-use Rattle.memory.proofs.fine.stored_fine.Reads as reads
-use Rattle.memory.proofs.fine.stored_fine.Lts as lts
-use Rattle.memory.proofs.fine.alone_fine.Reads as alone-fine-reads
-use Rattle.memory.proofs.kinds.is_kind.Reads as is-kind-reads
 
--- src/fine.rt:73:9
 returns : tie.Need-returns
-returns c = ?
+unfolding storedFine
+returns c = λ l e. rw (lt-leb _ 16 (c .if1 .taken))
 
--- src/fine.rt:75:9
 alone-fine-requires : tie.Need-alone-fine-requires
 alone-fine-requires c κs = search needs
 
--- src/fine.rt:76:9
 returns-2 : tie.Need-returns-2
-returns-2 c = ?
+unfolding storedFine
+returns-2 c = λ l e. rw (le-leb _ 16 (c .before .before .if1 .left), alone-and-link l (systemOf (c .before .before .before .before .before .before .args .s)), sym (c .before .alone-fine .ensures) ∙ not-true _ (c .if2 .taken))
 
--- src/fine.rt:79:5
 is-kind-requires : tie.Need-is-kind-requires
 is-kind-requires c κs = search needs
 
--- src/fine.rt:68:1
 returns-3 : tie.Need-returns-3
-returns-3 c = ?
+unfolding storedFine
+returns-3 c = λ l e. rw (le-leb _ 16 (c .before .before .before .if1 .left), alone-and-link l (systemOf (c .before .before .before .before .before .before .before .args .s)), sym (c .before .before .alone-fine .ensures) ∙ not-false _ (c .before .if2 .left)) (c .is-kind .ensures l e)
 
 pub stored-fine-spec : {M : Type 1} → statement M
 stored-fine-spec =
