@@ -5,14 +5,7 @@ ghost use Rattle.model.specs.Machine.{startFactory};
 ghost use Rattle.model.specs.Stored.{viewOf, holds, restartAnswer};
 ghost use Rattle.machine.specs.Calls.{begunOf};
 
-// What a call with a lent buffer gives: the next state, the number (0: accepted), and how many bytes it wrote.
-pub struct Stepped {
-    pub state: State,
-    pub number: u8,
-    pub length: usize,
-}
-
-// What a call without one gives.
+// What a call without a lent buffer gives: the next state, and the number (0: accepted).
 pub struct Begun {
     pub state: State,
     pub number: u8,

@@ -12,7 +12,7 @@ use Rattle.model.specs.Stored.{View, holds, shapeless, Answered, Restarted, ofO
 use Rattle.model.proofs.Basics.{and-join, and-split, either}
 use Rattle.model.proofs.Refusing.{step-ill}
 use Rattle.model.proofs.Exact.{other-numbers-exact}
-use Rattle.machine.specs.Calls.{Fine}
+use Rattle.engine.specs.Fine.{Fine}
 
 pub view-holds : (s : StoredState) → shaped s ≡ true → viewOf s ≡ holds (stateOf s)
 unfolding viewOf
