@@ -2,12 +2,11 @@
 use Rattle.model.specs.Base.{ℕ, List, Bool, cond, not, _&&_, _||_, eqb, leb, ltb}
 use Rattle.model.specs.declared.Kind.{Kind}
 use Rattle.model.specs.declared.Group.{Group}
-use Rattle.model.specs.declared.Enabled.{Enabled}
 use Rattle.model.specs.Limits.{maxSystems}
 use Rattle.model.specs.Kinds.{sameKind, sameGroup, ofGroup}
+use Rattle.model.specs.Memory.{System, Memory}
 use Rattle.model.specs.Chain.{onChain}
 use Rattle.model.specs.Use.{inUse}
-use Rattle.chains.specs.Flat.{linkedBy, memoryBy}
 use Rattle.commands.specs.declared.subject.Subject.{Subject}
 
 -- [Error 9]
@@ -22,13 +21,13 @@ otherAt x k = ltb 0 (x .place) && not (sameKind (x .kind) k)
 abbrev pub wrongAt : Subject → Subject → Bool
 wrongAt a b = cond (eqb (b .place) 0) (not (sameGroup (b .group) (a .group))) (not (sameKind (b .kind) (a .kind)))
 
--- [Error 11] with the predecessors' places laid flat
-abbrev pub usedAt : List ℕ → Enabled → ℕ → Bool
-usedAt preds e place = ltb 0 place && inUse (memoryBy preds e) place
+-- [Error 11] there is a user system, in use
+abbrev pub usedAt : Memory → ℕ → Bool
+usedAt m place = ltb 0 place && inUse m place
 
--- [Error 12] the same name, or on the other's chain
-abbrev pub beforeAt : List ℕ → ℕ → Bool → ℕ → Bool
-beforeAt preds place equal other = ltb 0 place && (equal || onChain (linkedBy preds) place other)
+-- [Error 12] there is a user system; it has the other's name, or is on its chain
+abbrev pub beforeAt : List System → ℕ → Bool → ℕ → Bool
+beforeAt l place equal other = ltb 0 place && (equal || onChain l place other)
 
 -- [Error 13] with a stored count of systems
 abbrev pub fullAt : ℕ → ℕ → Bool

@@ -2,4 +2,5 @@
 pub mod numbers; // numbers.rt: the ladder's numbers, and the first that applies
 pub mod subject; // subject.rt: what is asked of a name, from one search
 pub mod tests; // tests.rt: the conditions of the numbers
+pub mod judge; // judge.rt: the number of each change of the systems
 pub mod changed; // changed.rt: what a change gives, refused or accepted

@@ -1,13 +1,17 @@
 // The conditions of numbers 9 to 13, over what the names were found to mean.
 use crate::subject::Subject;
 use chains::links::in_use;
+use chains::links::links_of;
 use chains::links::on_chain;
 use memory::kinds::code_of;
 use model::Enabled;
 use model::Group;
 use model::Kind;
+use model::Memory;
 ghost use mathlib.Core.Path.{_≡_};
 ghost use Rattle.model.specs.Kinds.{ofGroup};
+ghost use Rattle.model.specs.Stored.{systemsOf, memoryOf};
+ghost use Rattle.chains.specs.Flat.{linkedBy, memoryBy};
 ghost use Rattle.commands.specs.Tests.{lockedAt, otherAt, wrongAt, usedAt, beforeAt, fullAt};
 
 fn guarded(g: Group) -> bool
@@ -60,8 +64,8 @@ pub fn wrong_pred(a: Subject, b: Subject) -> bool
 }
 
 // There is a system at the place, and it is in use.
-pub fn used(preds: &[u8], e: Enabled, place: u8) -> bool
-    ensures { λ r. ⌜ r ≡ usedAt (now (preds .entry)) e place ⌝ }
+fn used(preds: &[u8], e: Enabled, place: u8) -> bool
+    ensures { λ r. ⌜ r ≡ usedAt (memoryBy (now (preds .entry)) e) place ⌝ }
 {
     if place == 0 {
         return false;
@@ -70,8 +74,8 @@ pub fn used(preds: &[u8], e: Enabled, place: u8) -> bool
 }
 
 // There is a system at the place, and it is the other one or on its chain.
-pub fn at_or_before(preds: &[u8], place: u8, equal: bool, other: u8) -> bool
-    ensures { λ r. ⌜ r ≡ beforeAt (now (preds .entry)) place equal other ⌝ }
+fn at_or_before(preds: &[u8], place: u8, equal: bool, other: u8) -> bool
+    ensures { λ r. ⌜ r ≡ beforeAt (linkedBy (now (preds .entry))) place equal other ⌝ }
 {
     if place == 0 {
         return false;
@@ -80,6 +84,38 @@ pub fn at_or_before(preds: &[u8], place: u8, equal: bool, other: u8) -> bool
         return true;
     }
     on_chain(preds, place as usize, other as usize)
+}
+
+// There is a system at the place, and it is in use in the memory.
+pub fn used_in(m: Memory, place: u8) -> bool
+    ensures { λ r. ⌜ r ≡ usedAt (memoryOf m) place ⌝ }
+{
+    let links = links_of(m);
+    let preds = links.preds;
+    let count = links.count;
+    let e = m.enabled;
+    used(&preds[..count], e, place)
+}
+
+// What the links of a memory say of the system at a place: it is in use; it is the other one or on its chain.
+pub struct Ties {
+    pub used: bool,
+    pub ring: bool,
+}
+
+// Both, with the links laid flat once.
+pub fn ties_of(m: Memory, place: u8, equal: bool, other: u8) -> Ties
+    ensures { λ r. ⌜ r .used ≡ usedAt (memoryOf m) place ⌝ }
+    ensures { λ r. ⌜ r .ring ≡ beforeAt (systemsOf m) place equal other ⌝ }
+{
+    let links = links_of(m);
+    let preds = links.preds;
+    let count = links.count;
+    let flat = &preds[..count];
+    let e = m.enabled;
+    let in_use = used(flat, e, place);
+    let ring = at_or_before(flat, place, equal, other);
+    Ties { used: in_use, ring }
 }
 
 // The name is new, and every place is taken.
