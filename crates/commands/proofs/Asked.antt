@@ -65,7 +65,7 @@ module _ (m : Memory) (n : List ℕ) (x : Subject) (t : Tells m n x) where
     before-is equal e = rw (e, t .place-is, s .place-is, named-place m b)
 
 -- a stored count and the systems that it stands for reach the limit together
-full-count : (m : StoredMemory) → length (m .systems) ≡ 16 → leb 16 (m .count) ≡ leb 16 (length (systemsOf m))
+pub full-count : (m : StoredMemory) → length (m .systems) ≡ 16 → leb 16 (m .count) ≡ leb 16 (length (systemsOf m))
 full-count m long = go (decLt (m .count) 16)
   where
     n : length (systemsOf m) ≡ min (m .count) 16

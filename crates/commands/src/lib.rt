@@ -4,3 +4,5 @@ pub mod subject; // subject.rt: what is asked of a name, from one search
 pub mod tests; // tests.rt: the conditions of the numbers
 pub mod judge; // judge.rt: the number of each change of the systems
 pub mod changed; // changed.rt: what a change gives, refused or accepted
+pub mod systems; // systems.rt: define, link, copy, remove, enable
+pub mod whole; // whole.rt: the level, and whole memories

@@ -4,12 +4,19 @@ ghost use Rattle.model.specs.Refusals.{first};
 ghost use Rattle.commands.specs.Rungs.{rungsOf};
 
 const ACCEPTED: u8 = 0;
+
 const ABSENT: u8 = 7;
+
 const RESERVED: u8 = 8;
+
 pub const LOCKED: u8 = 9;
+
 const OTHER_TYPE: u8 = 10;
+
 const IN_USE: u8 = 11;
+
 const RING: u8 = 12;
+
 const FULL: u8 = 13;
 
 // Which conditions hold. A number that a change does not know has a condition that is false.

@@ -34,7 +34,7 @@ first-number-requires c κs = search needs
 
 returns : tie.Need-returns
 unfolding changeLadder first
-returns c = 
+returns c =
     λ name t u tn st e.
     let a = c .before .before .before .before .before .before .args in
     let m = memoryOf (a .m) in

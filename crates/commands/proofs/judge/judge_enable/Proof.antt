@@ -16,7 +16,7 @@ first-number-requires c κs = search needs
 
 returns : tie.Need-returns
 unfolding changeLadder first
-returns c = 
+returns c =
     λ x tx st e.
     let a = c .before .before .args in
     let lock = c .before .locked .ensures ∙ locked-is (memoryOf (a .m)) x (a .a) tx st (a .level) e in

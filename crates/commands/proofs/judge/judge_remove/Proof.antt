@@ -19,7 +19,7 @@ first-number-requires c κs = search needs
 
 returns : tie.Need-returns
 unfolding changeLadder first
-returns c = 
+returns c =
     λ x tx st e.
     let a = c .before .before .before .args in
     let m = memoryOf (a .m) in
