@@ -1,7 +1,7 @@
 -- The ladder's conditions, asked by name in the definitions and of what the names were found to mean in the code.
 use Prim.Native.Nat.{ℕ, zero, suc, min, _<_}
-use mathlib.Core.Path.{_≡_, refl, sym, ap, _∙_}
-use mathlib.Core.Bool.{Bool, cond, not, _&&_, _||_}
+use mathlib.Core.Path.{_≡_, refl, ap}
+use mathlib.Core.Bool.{Bool, not, _&&_, _||_}
 use mathlib.Core.List.{List}
 use native.Mathlib.Omega.{arith}
 use native.Mathlib.Decide.{decLt}
@@ -9,14 +9,11 @@ use borrow.Author.Tests.{ne-eqb, lt-ltb, le-leb, lt-leb}
 use lib.Dec.{eqb, leb, ltb}
 use lib.ListN.{length}
 use Rattle.model.specs.declared.Kind.{Kind}
-use Rattle.model.specs.declared.Group.{Group}
 use Rattle.model.specs.declared.Enabled.{Enabled}
 use Rattle.model.specs.declared.Memory.{Memory as StoredMemory}
-use Rattle.model.specs.Kinds.{sameKind, sameGroup, ofGroup}
 use Rattle.model.specs.Lists.{same}
-use Rattle.model.specs.Memory.{System, Memory, State, isUser, placeNamed, named, userNamed}
-use Rattle.model.specs.Chain.{onChain}
-use Rattle.model.specs.Use.{inUse, nameInUse}
+use Rattle.model.specs.Memory.{System, Memory, State, isUser, placeNamed, named}
+use Rattle.model.specs.Use.{nameInUse}
 use Rattle.model.specs.Refusals.{locked, wrongPred, otherType, atOrBefore, noRoom}
 use Rattle.model.specs.Stored.{systemsOf, memoryOf}
 use Rattle.model.proofs.Named.{named-place}

@@ -1,27 +1,26 @@
 -- What a change gives, by its number, and what a ladder that was passed says of the places.
 use Prim.Native.Nat.{ℕ, _<_, _≤_}
 use mathlib.Core.Path.{_≡_, refl, sym, ap, _∙_}
-use mathlib.Core.Bool.{Bool, true, false, not, _&&_}
+use mathlib.Core.Bool.{Bool, true, false}
 use mathlib.Core.List.{List, [], _∷_}
 use native.Mathlib.Omega.{arith}
 use borrow.Author.Tests.{eq-eqb, ne-eqb, leb-false}
-use lib.Dec.{eqb, leb, ltb}
+use lib.Dec.{eqb}
 use lib.ListN.{length}
 use Rattle.model.specs.declared.Kind.{Kind}
 use Rattle.model.specs.declared.Vec3.{Vec3}
 use Rattle.model.specs.declared.Turns.{Turns}
 use Rattle.model.specs.declared.Memory.{Memory as StoredMemory}
 use Rattle.model.specs.declared.State.{State as StoredState}
-use Rattle.model.specs.Memory.{System, Memory, State, isUser, placeNamed, named, userNamed, systemAt}
-use Rattle.model.specs.Words.{reserved}
+use Rattle.model.specs.Memory.{Memory, State, isUser, placeNamed}
 use Rattle.model.specs.Request.{Change, define, link, copy, remove}
 use Rattle.model.specs.Refusals.{Rung, first, changeLadder, absent, noRoom}
-use Rattle.model.specs.Effects.{withPred, withName, put, fresh, linked, changed}
+use Rattle.model.specs.Effects.{put, fresh, changed}
 use Rattle.model.specs.Stored.{systemsOf, memoryOf, memoryShaped, shaped}
 use Rattle.model.proofs.Basics.{and-split, or-false}
-use Rattle.model.proofs.Named.{place-name, place-within, user-place, named-place, present-user}
+use Rattle.model.proofs.Named.{place-within, present-user}
 use Rattle.memory.specs.Put.{putAt}
-use Rattle.memory.proofs.Edits.{put-by-place}
+use Rattle.memory.proofs.ByName.{put-by-place}
 use Rattle.memory.proofs.Laws.{length-systems}
 use Rattle.commands.specs.Given.{given, givenBy, accepts, refuses}
 use Rattle.commands.proofs.Asked.{full-count}
@@ -57,20 +56,20 @@ module _ (level : ℕ) where
 
 module _ (st : State) (m : Memory) where
   -- what is linked is a user system
-  pub link-user : (a b : List ℕ) → first (changeLadder st m (link a b)) ≡ 0 → 0 < placeNamed (m .systems) a
+  pub link-user : (a b : List ℕ) → first (changeLadder st m (link a b)) ≡ 0 → isUser m a ≡ true
   unfolding changeLadder
   link-user a b e =
       let p = passed 7 _ _ (omega arith) e in
       let q = passed 8 _ _ (omega arith) (p .1) in
-      user-place m a (present-user m a (or-false (absent m a) (absent m b) (p .0) .0) (q .0))
+      present-user m a (or-false (absent m a) (absent m b) (p .0) .0) (q .0)
 
   -- what is removed is a user system
-  pub remove-user : (a : List ℕ) → first (changeLadder st m (remove a)) ≡ 0 → 0 < placeNamed (m .systems) a
+  pub remove-user : (a : List ℕ) → first (changeLadder st m (remove a)) ≡ 0 → isUser m a ≡ true
   unfolding changeLadder
   remove-user a e =
       let p = passed 7 _ _ (omega arith) e in
       let q = passed 8 _ _ (omega arith) (p .1) in
-      user-place m a (present-user m a (p .0) (q .0))
+      present-user m a (p .0) (q .0)
 
   pub define-room : (k : Kind) (n : List ℕ) (t : Vec3) (u : Turns) → first (changeLadder st m (define k n t u)) ≡ 0 → noRoom m n ≡ false
   unfolding changeLadder
@@ -101,21 +100,10 @@ module _ (m : StoredMemory) (long : length (m .systems) ≡ 16) (n : List ℕ) w
   unfolding noRoom isUser
   room e z = leb-false 16 (m .count) (full-count m long ∙ (rw z at e))
 
--- ---- edits by name as edits by place
-
-module _ (m : Memory) where
-  pub linked-at : (a b : List ℕ) → 0 < placeNamed (m .systems) a
-      → linked m a b ≡ putAt m (placeNamed (m .systems) a) (withPred (systemAt (m .systems) (placeNamed (m .systems) a)) (placeNamed (m .systems) b))
-  unfolding linked
-  linked-at a b h =
-      rw (named-place m b) (put-by-place m _ ∙ ap (λ n. putAt m (placeNamed (m .systems) n) (withPred (userNamed m a) (placeNamed (m .systems) b))) (place-name (m .systems) a h))
-
-  pub fresh-at : (k : Kind) (n : List ℕ) (t : Vec3) (u : Turns) → put m (fresh m k n t u) ≡ putAt m (placeNamed (m .systems) n) (fresh m k n t u)
-  unfolding fresh
-  fresh-at k n t u = put-by-place m (fresh m k n t u)
-
-  pub copied-at : (s : System) (d : List ℕ) → put m (withName s d) ≡ putAt m (placeNamed (m .systems) d) (withName s d)
-  copied-at s d = put-by-place m (withName s d)
+-- a definition is put at the place of its name
+pub defined-by-place : (m : Memory) (k : Kind) (n : List ℕ) (t : Vec3) (u : Turns) → put m (fresh m k n t u) ≡ putAt m (placeNamed (m .systems) n) (fresh m k n t u)
+unfolding fresh
+defined-by-place m k n t u = put-by-place m (fresh m k n t u)
 
 -- ---- shape
 

@@ -1,9 +1,9 @@
 -- What a change gives: the next state, and the number with which it was refused, 0 if it was not.
 use Rattle.model.specs.Base.{ℕ, true, false, eqb}
-use Rattle.model.specs.Memory.{Memory, State}
+use Rattle.model.specs.Memory.{State}
 use Rattle.model.specs.Request.{Change}
 use Rattle.model.specs.Refusals.{first, changeLadder}
-use Rattle.model.specs.Effects.{withVolatile, withError, changed}
+use Rattle.model.specs.Effects.{withError, changed}
 use Rattle.model.specs.Stored.{stateOf}
 use Rattle.commands.specs.declared.changed.Changed.{Changed}
 

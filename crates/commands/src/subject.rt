@@ -3,8 +3,7 @@ use memory::find::Found;
 use memory::find::find;
 use memory::find::system_at;
 use memory::kinds::group_of;
-use memory::names::clipped;
-use memory::names::reserved_bytes;
+use memory::names::reserved_name;
 use model::Group;
 use model::Kind;
 use model::Memory;
@@ -14,8 +13,7 @@ ghost use mathlib.Core.Bool.{not};
 ghost use mathlib.Core.List.{List};
 ghost use Rattle.model.specs.Lists.{there?};
 ghost use Rattle.model.specs.Memory.{System, refOr, systemAt};
-ghost use Rattle.model.specs.Words.{reserved};
-ghost use Rattle.model.specs.Stored.{bytesOf, systemsOf, memoryOf};
+ghost use Rattle.model.specs.Stored.{bytesOf, memoryOf};
 ghost use Rattle.memory.specs.Found.{foundRef, foundPlace};
 ghost use Rattle.commands.specs.Subject.{Tells};
 
@@ -58,14 +56,6 @@ fn group_found(f: Found, kind: Kind) -> Group
         Found::Fixed(group) => group,
         Found::Absent => Group::Operating,
     }
-}
-
-fn reserved_name(n: Name) -> bool
-    ensures { λ r. ⌜ r ≡ reserved (bytesOf n) ⌝ }
-{
-    let k = clipped(n.len);
-    let x = n.bytes;
-    reserved_bytes(&x[..k])
 }
 
 pub fn look(m: Memory, n: Name) -> Subject

@@ -1,12 +1,11 @@
 use mathlib.Core.Path.{_≡_, sym, _∙_}
-use mathlib.Core.Bool.{false, _||_}
 use mathlib.Core.List.{[], _∷_}
 use borrow.Author.Needs.{needs}
 use lib.ListN.{length}
 use Rattle.model.specs.Refusals.{first, changeLadder}
 use Rattle.model.specs.Stored.{memoryOf}
 use Rattle.chains.proofs.Copies.{length-mapped}
-use Rattle.commands.proofs.Asked.{locked-is, other-is, used-is, full-is}
+use Rattle.commands.proofs.Asked.{other-is, used-is, full-is}
 use Rattle.commands.specs.Tests.{lockedAt}
 use Rattle.commands.proofs.judge.judge_define.Statement.{statement}
 use Rattle.commands.proofs.judge.judge_define.Tie as tie

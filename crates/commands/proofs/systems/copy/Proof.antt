@@ -2,15 +2,16 @@ use mathlib.Core.Path.{_≡_, refl, sym, ap, _∙_}
 use borrow.Author.Needs.{needs}
 use borrow.Author.Tests.{le-leb}
 use lib.ListN.{length}
-use Rattle.model.specs.Memory.{System, Memory, systemAt, userNamed}
+use Rattle.model.specs.Memory.{System, Memory, systemAt}
 use Rattle.model.specs.Request.{Change, copy}
 use Rattle.model.specs.Refusals.{first, changeLadder}
 use Rattle.model.specs.Effects.{withVolatile, withName, changed}
 use Rattle.model.specs.Stored.{bytesOf, memoryOf, stateOf}
 use Rattle.chains.proofs.Copies.{length-mapped}
 use Rattle.memory.specs.Put.{putAt}
+use Rattle.memory.proofs.ByName.{copied-by-place}
 use Rattle.commands.specs.Given.{accepts}
-use Rattle.commands.proofs.Carried.{given-refused, given-accepted, copy-room, place-few, room, copied-at, volatile-shaped}
+use Rattle.commands.proofs.Carried.{given-refused, given-accepted, copy-room, place-few, room, volatile-shaped}
 use Rattle.commands.proofs.systems.copy.Statement.{statement}
 use Rattle.commands.proofs.systems.copy.Tie as tie
 
@@ -80,7 +81,7 @@ returns-2 c =
     let source = c .before .before .before .system-at .ensures .0 ∙ ap (systemAt (m .systems)) x in
     let made = c .before .before .renamed .ensures in
     let copied = made .0 ∙ ap (λ (s : System). withName s (bytesOf (a .to))) source in
-    let next = c .before .put-at .ensures .0 ∙ (λ i. putAt m (y i) (copied i)) ∙ sym (copied-at m (userNamed m (bytesOf (a .from))) (bytesOf (a .to))) in (
+    let next = c .before .put-at .ensures .0 ∙ (λ i. putAt m (y i) (copied i)) ∙ sym (copied-by-place m (bytesOf (a .from)) (bytesOf (a .to))) in (
       c .accepted .ensures .0 ∙ ap (λ (n : Memory). accepts (withVolatile st n)) next
           ∙ sym (given-accepted st (asked (start j)) (j .judge-copy .result) (number j) (t .if1 .left)),
       λ h k. c .accepted .ensures .1 h (c .before .put-at .ensures .1 (volatile-shaped (a .s) h) (rw (made .1) (le-leb (a .to .len) 16 k))),

@@ -10,7 +10,7 @@ use Rattle.model.specs.Stored.{bytesOf, memoryOf, stateOf}
 use Rattle.chains.proofs.Copies.{length-mapped}
 use Rattle.memory.specs.Put.{putAt}
 use Rattle.commands.specs.Given.{accepts}
-use Rattle.commands.proofs.Carried.{given-refused, given-accepted, define-room, place-few, room, fresh-at, volatile-shaped}
+use Rattle.commands.proofs.Carried.{given-refused, given-accepted, define-room, place-few, room, defined-by-place, volatile-shaped}
 use Rattle.commands.proofs.systems.define.Statement.{statement}
 use Rattle.commands.proofs.systems.define.Tie as tie
 
@@ -65,7 +65,7 @@ returns-2 c =
     let m = memoryOf (a .s .volatile) in
     let x = j .before .look .ensures .place-is in
     let made = c .before .before .fresh-system .ensures in
-    let next = c .before .put-at .ensures .0 ∙ (λ i. putAt m (x i) (made .0 (m .systems) i)) ∙ sym (fresh-at m (a .kind) (bytesOf (a .n)) (a .offset) (a .turns)) in (
+    let next = c .before .put-at .ensures .0 ∙ (λ i. putAt m (x i) (made .0 (m .systems) i)) ∙ sym (defined-by-place m (a .kind) (bytesOf (a .n)) (a .offset) (a .turns)) in (
       c .accepted .ensures .0 ∙ ap (λ (n : Memory). accepts (withVolatile st n)) next
           ∙ sym (given-accepted st (asked (start j)) (j .judge-define .result) (number j) (t .if1 .left)),
       λ h k. c .accepted .ensures .1 h (c .before .put-at .ensures .1 (volatile-shaped (a .s) h) (rw (made .1) (le-leb (a .n .len) 16 k))),

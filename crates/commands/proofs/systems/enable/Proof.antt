@@ -2,11 +2,11 @@ use mathlib.Core.Path.{_≡_, refl, sym, ap, _∙_}
 use mathlib.Core.Option.{Option}
 use borrow.Author.Needs.{needs}
 use Rattle.model.specs.declared.Enabled.{Enabled}
-use Rattle.model.specs.Memory.{Memory, Ref, refOr}
+use Rattle.model.specs.Memory.{Ref, refOr}
 use Rattle.model.specs.Request.{Change, enable}
 use Rattle.model.specs.Refusals.{first, changeLadder}
 use Rattle.model.specs.Effects.{withVolatile, enabling, changed}
-use Rattle.model.specs.Stored.{bytesOf, systemsOf, memoryOf, stateOf, memoryShaped}
+use Rattle.model.specs.Stored.{bytesOf, memoryOf, stateOf, memoryShaped}
 use Rattle.commands.specs.Given.{accepts}
 use Rattle.commands.proofs.Carried.{given-refused, given-accepted, volatile-shaped}
 use Rattle.commands.proofs.systems.enable.Statement.{statement}

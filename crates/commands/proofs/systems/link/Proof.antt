@@ -1,16 +1,18 @@
-use Prim.Native.Nat.{_<_}
 use mathlib.Core.Path.{_≡_, refl, sym, ap, _∙_}
+use mathlib.Core.Bool.{true}
 use borrow.Author.Needs.{needs}
 use lib.ListN.{length}
-use Rattle.model.specs.Memory.{Memory, placeNamed, systemAt}
+use Rattle.model.specs.Memory.{Memory, isUser, systemAt}
 use Rattle.model.specs.Request.{Change, link}
 use Rattle.model.specs.Refusals.{first, changeLadder}
 use Rattle.model.specs.Effects.{withVolatile, withPred, changed}
-use Rattle.model.specs.Stored.{bytesOf, systemsOf, memoryOf, stateOf}
+use Rattle.model.specs.Stored.{bytesOf, memoryOf, stateOf}
+use Rattle.model.proofs.Named.{user-place}
 use Rattle.chains.proofs.Copies.{length-mapped}
 use Rattle.memory.specs.Put.{putAt}
+use Rattle.memory.proofs.ByName.{linked-by-place}
 use Rattle.commands.specs.Given.{accepts}
-use Rattle.commands.proofs.Carried.{given-refused, given-accepted, link-user, place-few, linked-at, volatile-shaped}
+use Rattle.commands.proofs.Carried.{given-refused, given-accepted, link-user, place-few, volatile-shaped}
 use Rattle.commands.proofs.systems.link.Statement.{statement}
 use Rattle.commands.proofs.systems.link.Tie as tie
 
@@ -31,7 +33,7 @@ number c =
     c .judge-link .ensures (bytesOf (s .a)) (bytesOf (s .b)) (c .before .before .before .look .ensures) (c .before .before .look2 .ensures) same (stateOf (s .s)) refl
 
 -- a is a user system
-user : (c : tie.Else1) → 0 < placeNamed (systemsOf (start (c .before) .args .s .volatile)) (bytesOf (start (c .before) .args .a))
+user : (c : tie.Else1) → isUser (memoryOf (start (c .before) .args .s .volatile)) (bytesOf (start (c .before) .args .a)) ≡ true
 user c = let s = start (c .before) .args in link-user (stateOf (s .s)) (memoryOf (s .s .volatile)) (bytesOf (s .a)) (bytesOf (s .b)) (sym (number (c .before)) ∙ c .if1 .left)
 
 look-requires : tie.Need-look-requires
@@ -57,7 +59,7 @@ returns c =
 link-at-requires : tie.Need-link-at-requires
 link-at-requires c κs =
     let s = start (c .before) in
-    rw (c .before .before .before .before .look .ensures .place-is) (user c, place-few (s .args .s .volatile) (long s) (bytesOf (s .args .a)))
+    rw (c .before .before .before .before .look .ensures .place-is) (user-place (memoryOf (s .args .s .volatile)) (bytesOf (s .args .a)) (user c), place-few (s .args .s .volatile) (long s) (bytesOf (s .args .a)))
 
 accepted-requires : tie.Need-accepted-requires
 accepted-requires c κs = search needs
@@ -72,7 +74,7 @@ returns-2 c =
     let m = memoryOf (s .s .volatile) in
     let x = j .before .before .before .look .ensures .place-is in
     let y = j .before .before .look2 .ensures .place-is in
-    let next = c .before .link-at .ensures .0 ∙ (λ i. putAt m (x i) (withPred (systemAt (m .systems) (x i)) (y i))) ∙ sym (linked-at m (bytesOf (s .a)) (bytesOf (s .b)) (user (c .before .before))) in (
+    let next = c .before .link-at .ensures .0 ∙ (λ i. putAt m (x i) (withPred (systemAt (m .systems) (x i)) (y i))) ∙ sym (linked-by-place m (bytesOf (s .a)) (bytesOf (s .b)) (user (c .before .before))) in (
       c .accepted .ensures .0 ∙ ap (λ (n : Memory). accepts (withVolatile st n)) next
           ∙ sym (given-accepted st (asked (start j)) (j .judge-link .result) (number j) (t .if1 .left)),
       λ h. c .accepted .ensures .1 h (c .before .link-at .ensures .1 (volatile-shaped (s .s) h)),

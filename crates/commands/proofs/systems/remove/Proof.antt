@@ -5,7 +5,7 @@ use Rattle.model.specs.Request.{Change, remove}
 use Rattle.model.specs.Refusals.{first, changeLadder}
 use Rattle.model.specs.Effects.{withVolatile, removedAt, changed}
 use Rattle.model.specs.Stored.{bytesOf, systemsOf, memoryOf, stateOf}
-use Rattle.model.proofs.Named.{place-within}
+use Rattle.model.proofs.Named.{user-place, place-within}
 use Rattle.commands.specs.Given.{accepts}
 use Rattle.commands.proofs.Carried.{given-refused, given-accepted, remove-user, volatile-shaped}
 use Rattle.commands.proofs.systems.remove.Statement.{statement}
@@ -39,7 +39,7 @@ removed-at-requires : tie.Need-removed-at-requires
 removed-at-requires c κs =
     let a = start (c .before) .args in
     let user = remove-user (stateOf (a .s)) (memoryOf (a .s .volatile)) (bytesOf (a .a)) (sym (number (c .before)) ∙ c .if1 .left) in
-    rw (c .before .before .look .ensures .place-is) (user, place-within (systemsOf (a .s .volatile)) (bytesOf (a .a)))
+    rw (c .before .before .look .ensures .place-is) (user-place (memoryOf (a .s .volatile)) (bytesOf (a .a)) user, place-within (systemsOf (a .s .volatile)) (bytesOf (a .a)))
 
 accepted-requires : tie.Need-accepted-requires
 accepted-requires c κs = search needs
