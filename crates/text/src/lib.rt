@@ -1,0 +1,3 @@
+// The bytes of a line: its words, and the names, numbers and axis pairs that they spell.
+pub mod names;
+pub mod words;
