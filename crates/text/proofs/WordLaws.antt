@@ -167,14 +167,18 @@ module _ (line : List ℕ) (start n : ℕ) (h : start + n ≤ length line) where
 
 -- ---- the cursor
 
+-- where the next word starts
+abbrev pub startFrom : List ℕ → ℕ → ℕ
+startFrom line at = at + blanks (drop at line)
+
 module _ (line : List ℕ) (at : ℕ) where
   abbrev start : ℕ
-  start = at + blanks (drop at line)
+  start = startFrom line at
 
-  none-left : run (drop start line) ≡ 0 → wordsFrom line at ≡ []
+  pub none-left : run (drop start line) ≡ 0 → wordsFrom line at ≡ []
   none-left h = words-end (drop at line) (rw (drop-drop (blanks (drop at line)) at line) h)
 
-  one-left : 0 < run (drop start line) → wordsFrom line at ≡ wordAt line start (run (drop start line)) ∷ wordsFrom line (start + run (drop start line))
+  pub one-left : 0 < run (drop start line) → wordsFrom line at ≡ wordAt line start (run (drop start line)) ∷ wordsFrom line (start + run (drop start line))
   one-left h =
       words-blanks (drop at line) ∙ ap words (drop-drop (blanks (drop at line)) at line) ∙ words-run (drop start line) h ∙
       rw (drop-drop (run (drop start line)) start line)
