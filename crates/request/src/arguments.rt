@@ -2,10 +2,12 @@
 use super::Asked;
 use super::Request;
 use super::commands::Form;
+use model::Kind;
 use model::Name;
 use model::Turns;
 use model::Vec3;
 use text::names::read_name;
+use text::pairs::read_pairs;
 use text::words::is_word;
 use text::words::next_word;
 ghost use mathlib.Core.Path.{_≡_};
@@ -14,7 +16,7 @@ ghost use mathlib.Core.Bool.{cond};
 ghost use mathlib.Core.List.{[], _∷_};
 ghost use lib.ListN.{length};
 ghost use Rattle.model.specs.Lists.{none?};
-ghost use Rattle.model.specs.Request.{malformed, sameWords, oneName, twoNames, levelWords, resultantWords};
+ghost use Rattle.model.specs.Request.{malformed, definition, sameWords, oneName, twoNames, levelWords, resultantWords};
 ghost use Rattle.text.specs.Cursor.{wordsFrom};
 ghost use Rattle.request.specs.Asked.{Says, asking, emptyName, named};
 ghost use Rattle.request.specs.Forms.{readAs};
@@ -142,4 +144,52 @@ fn resultants(line: &[u8], at: usize) -> Request
         return plain(Asked::ListResultants);
     }
     one_name(line, at, Asked::ListResultant)
+}
+
+// A name, then axis pairs: 5 for the form of the whole line before 6 for a value.
+fn defining(line: &[u8], at: usize, kind: Kind) -> Request
+    requires { ⌜ at ≤ length (now line) ⌝ }
+    ensures { λ r. ⌜ Says r (definition kind (wordsFrom (now (line .entry)) at)) ⌝ }
+{
+    let w = next_word(line, at);
+    let a = read_name(line, w);
+    if !a.ok {
+        return plain(Asked::Malformed);
+    }
+    let end = w.end;
+    let p = read_pairs(line, end, kind);
+    if p.malformed {
+        return plain(Asked::Malformed);
+    }
+    if p.beyond {
+        return plain(Asked::Beyond);
+    }
+    let first = a.name;
+    let second = no_name();
+    let offset = p.offset;
+    let turns = p.turns;
+    Request {
+        asked: Asked::Define(kind),
+        first,
+        second,
+        offset,
+        turns,
+    }
+}
+
+// The words from a place on, in a command's form.
+pub fn arguments(line: &[u8], at: usize, form: Form) -> Request
+    requires { ⌜ at ≤ length (now line) ⌝ }
+    ensures { λ r. ⌜ Says r (readAs form (wordsFrom (now (line .entry)) at)) ⌝ }
+{
+    match form {
+        Form::NoCommand => plain(Asked::Unknown),
+        Form::Definition(kind) => defining(line, at, kind),
+        Form::OneName(asked) => one_name(line, at, asked),
+        Form::TwoNames(asked) => two_names(line, at, asked),
+        Form::Password(asked) => if_fine(only_word(line, at, b"SKS"), asked),
+        Form::Alone(asked) => if_fine(ended(line, at), asked),
+        Form::Level => level(line, at),
+        Form::Resultants => resultants(line, at),
+    }
 }

@@ -24,8 +24,8 @@ Line n = n .before .before .args .line .now
 abbrev make : tie.After-next-word → List ℕ → List ℕ → Reading
 make n = named (n .before .before .args .asked)
 
-abbrev V : tie.After-next-word → List ℕ
-V n = wordOf (Line n) (n .next-word .result)
+abbrev A : tie.After-next-word → List ℕ
+A n = wordOf (Line n) (n .next-word .result)
 
 within : (n : tie.After-next-word) → Within (Line n) (n .next-word .result)
 within n = word-within _ _ _ (n .next-word .ensures) (n .before .before .pre)
@@ -44,20 +44,20 @@ returns c =
     let r = c .before .before .before in
     let n = r .before in
     says-plain Malformed (c .plain .ensures)
-    (sym (either-way (Line n) _ _ (n .next-word .ensures) (twoNames (make n)) malformed (two-none (make n) (V n))
-    (two-bad (make n) (V n) (sym (name-ok _ _ (r .read-name .ensures)) ∙ not-true _ (c .before .if1 .taken)))))
+    (sym (either-way (Line n) _ _ (n .next-word .ensures) (twoNames (make n)) malformed (two-none (make n) (A n))
+    (two-bad (make n) (A n) (sym (name-ok _ _ (r .read-name .ensures)) ∙ not-true _ (c .before .if1 .taken)))))
 
 -- the first name is there, and the words behind it
 abbrev Before : tie.Else1 → tie.After-next-word
 Before e = e .before .before .before
 
-good : (e : tie.Else1) → legalName (V (Before e)) ≡ true
+good : (e : tie.Else1) → legalName (A (Before e)) ≡ true
 good e = sym (name-ok _ _ (e .before .before .read-name .ensures)) ∙ not-false _ (e .if1 .left)
 
 there : (e : tie.Else1) →
     let n = Before e in
-    wordsFrom (Line n) (n .before .before .args .at) ≡ V n ∷ wordsFrom (Line n) (n .next-word .result .end)
-there e = let n = Before e in at-word (Line n) _ _ (n .next-word .ensures) (legal-long (V n) (good e))
+    wordsFrom (Line n) (n .before .before .args .at) ≡ A n ∷ wordsFrom (Line n) (n .next-word .result .end)
+there e = let n = Before e in at-word (Line n) _ _ (n .next-word .ensures) (legal-long (A n) (good e))
 
 next-word-requires-2 : tie.Need-next-word-requires-2
 next-word-requires-2 c κs = within (Before c) .inside
@@ -83,8 +83,8 @@ returns-2 c =
     let n = Before e in
     says-plain Malformed (c .plain2 .ensures)
     (sym (ap (twoNames (make n)) (there e) ∙
-    either-way (Line n) _ _ (m .next-word2 .ensures) (λ ws. twoNames (make n) (V n ∷ ws)) malformed (two-short (make n) (V n))
-    (two-worse (make n) (V n) (W m) (good e) (sym (name-ok _ _ (r .read-name2 .ensures)) ∙ not-true _ (c .before .if2 .taken)))))
+    either-way (Line n) _ _ (m .next-word2 .ensures) (λ ws. twoNames (make n) (A n ∷ ws)) malformed (two-short (make n) (A n))
+    (two-worse (make n) (A n) (W m) (good e) (sym (name-ok _ _ (r .read-name2 .ensures)) ∙ not-true _ (c .before .if2 .taken)))))
 
 -- the second name is there, and the words behind it
 good-2 : (f : tie.Else2) → legalName (W (f .before .before .before)) ≡ true
@@ -93,11 +93,11 @@ good-2 f = sym (name-ok _ _ (f .before .before .read-name2 .ensures)) ∙ not-fa
 there-2 : (f : tie.Else2) →
     let m = f .before .before .before in
     let n = Before (m .before) in
-    wordsFrom (Line n) (n .before .before .args .at) ≡ V n ∷ W m ∷ wordsFrom (Line n) (m .next-word2 .result .end)
+    wordsFrom (Line n) (n .before .before .args .at) ≡ A n ∷ W m ∷ wordsFrom (Line n) (m .next-word2 .result .end)
 there-2 f =
     let m = f .before .before .before in
     let n = Before (m .before) in
-    there (m .before) ∙ ap (λ (ws : List (List ℕ)). V n ∷ ws) (at-word (Line n) _ _ (m .next-word2 .ensures) (legal-long (W m) (good-2 f)))
+    there (m .before) ∙ ap (λ (ws : List (List ℕ)). A n ∷ ws) (at-word (Line n) _ _ (m .next-word2 .ensures) (legal-long (W m) (good-2 f)))
 
 ended-requires : tie.Need-ended-requires
 ended-requires c κs = within-2 (c .before .before .before) .inside
@@ -112,7 +112,7 @@ returns-3 c =
     let m = f .before .before .before in
     let n = Before (m .before) in
     says-plain Malformed (c .plain3 .ensures)
-    (sym (ap (twoNames (make n)) (there-2 f) ∙ two-more (make n) (V n) (W m) _ (sym (d .ended .ensures) ∙ not-true _ (c .before .if3 .taken))))
+    (sym (ap (twoNames (make n)) (there-2 f) ∙ two-more (make n) (A n) (W m) _ (sym (d .ended .ensures) ∙ not-true _ (c .before .if3 .taken))))
 
 ask-requires : tie.Need-ask-requires
 ask-requires c κs = search needs
@@ -131,7 +131,7 @@ returns-4 c =
     says-names _ _ _ (c .ask .ensures) (name-short _ _ (r .read-name .ensures) (good e)) (name-short _ _ (s .read-name2 .ensures) (good-2 f))
     (rw (a, b)
     (sym (ap (twoNames (make n)) (there-2 f) ∙
-    two-good (make n) (V n) (W m) _ (good e) (good-2 f) (sym (d .ended .ensures) ∙ not-false _ (c .before .before .before .if3 .left)))))
+    two-good (make n) (A n) (W m) _ (good e) (good-2 f) (sym (d .ended .ensures) ∙ not-false _ (c .before .before .before .if3 .left)))))
 
 pub two-names-spec : {M : Type 1} → statement M
 two-names-spec =
