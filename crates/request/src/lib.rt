@@ -2,6 +2,7 @@
 pub mod arguments;
 pub mod commands;
 pub mod printable;
+
 use arguments::arguments;
 use commands::form_of;
 use model::Kind;
