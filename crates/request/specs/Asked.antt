@@ -2,12 +2,13 @@
 use Prim.Native.Nat.{ℕ, _≤_}
 use mathlib.Core.Path.{_≡_}
 use mathlib.Core.List.{List, []}
-use lib.IntN.{pos}
 use lib.ListN.{replicate}
 use Rattle.model.specs.declared.Name.{Name}
 use Rattle.model.specs.declared.Vec3.{Vec3}
 use Rattle.model.specs.declared.Turns.{Turns}
 use Rattle.model.specs.Limits.{nameLimit}
+use Rattle.model.specs.Memory.{noTurn}
+use Rattle.model.specs.Pose.{origin}
 use Rattle.model.specs.Stored.{bytesOf}
 use Rattle.model.specs.Request as model
 use Rattle.request.specs.declared.Asked.{Asked}
@@ -47,18 +48,12 @@ pub record Says (r : Request) (reading : model.Reading) : Type 0 where
 
 -- ---- requests without values
 
-abbrev pub origin : Vec3
-origin = record { x = pos 0; y = pos 0; z = pos 0 }
-
-abbrev pub unturned : Turns
-unturned = record { u = 0; v = 0; w = 0 }
-
 abbrev pub emptyName : Name
 emptyName = record { bytes = replicate nameLimit 0; len = 0 }
 
 abbrev pub asking : Asked → Name → Name → Request
-asking q a b = record { asked = q; first = a; second = b; offset = origin; turns = unturned }
+asking q a b = record { asked = q; first = a; second = b; offset = origin; turns = noTurn }
 
 -- with these names
 abbrev pub named : Asked → List ℕ → List ℕ → model.Reading
-named q a b = meaning q a b origin unturned
+named q a b = meaning q a b origin noTurn

@@ -102,8 +102,8 @@ fn two_names(line: &[u8], at: usize, asked: Asked) -> Request
     if !b.ok {
         return plain(Asked::Malformed);
     }
-    let end = w.end;
-    if !ended(line, end) {
+    let last = w.end;
+    if !ended(line, last) {
         return plain(Asked::Malformed);
     }
     let first = a.name;

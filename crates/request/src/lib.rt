@@ -1,6 +1,6 @@
 // What a line asks for.
-pub mod arguments;
-pub mod commands;
+mod arguments;
+mod commands;
 pub mod printable;
 
 use arguments::arguments;
