@@ -1,0 +1,5 @@
+pub mod CommandLaws
+pub mod Defining
+pub mod Laws
+pub mod Says
+pub mod Words

@@ -1,0 +1,9 @@
+pub mod Lists
+pub mod NameLaws
+pub mod NumberBytes
+pub mod NumberLaws
+pub mod NumberRange
+pub mod PairLaws
+pub mod PairWords
+pub mod ValueLaws
+pub mod WordLaws
