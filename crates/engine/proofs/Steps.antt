@@ -3,6 +3,7 @@ use Prim.Native.Nat.{ℕ, _≤_, _<_}
 use mathlib.Core.Path.{_≡_, refl, sym, ap, _∙_}
 use mathlib.Core.List.{List, [], _∷_, _++_}
 use mathlib.Core.Bool.{true, false}
+use mathlib.Core.Logic.{⊎-elim}
 use lib.Dec.{eqb}
 use lib.ListN.{length}
 use Rattle.model.specs.Memory.{Memory, State}
@@ -14,6 +15,9 @@ use Rattle.model.specs.Reply.{listed, reply, decimal}
 use Rattle.model.specs.Ascii.{ascii}
 use Rattle.model.specs.Machine.{Outcome, stepped, judged, carriedOut, answered, refused}
 use Rattle.model.proofs.Refusing.{step-fine}
+use Rattle.model.proofs.Basics.{either}
+use Rattle.commands.specs.Given.{given, givenBy}
+use Rattle.engine.specs.Fine.{ofGiven}
 use Rattle.engine.specs.Obeyed.{decided, obeyed}
 
 module _ (st : State) (l b : List ℕ) (fine : wellFormed st ≡ true) where
@@ -79,3 +83,19 @@ module _ (st : State) (b : List ℕ) where
   pub obeyed-resultants : obeyed st (asks (list resultants)) b ≡ answered st (listed (st .volatile) resultants) b
   unfolding obeyed decided first readingLadder requestLadder queryLadder carriedOut next reply
   obeyed-resultants = refl
+
+module _ (st : State) (c : Change) (n : ℕ) (b : List ℕ) where
+  taken : eqb n 0 ≡ true → decided st n (asks (change c)) b ≡ ofGiven (givenBy st c n) b
+  unfolding decided givenBy carriedOut next reply
+  taken e = rw (e, decided, givenBy)
+
+  turned-down : eqb n 0 ≡ false → decided st n (asks (change c)) b ≡ ofGiven (givenBy st c n) b
+  unfolding decided givenBy
+  turned-down e = rw (e, decided, givenBy)
+
+-- a change: what the ladder and the effects give
+pub obeyed-change : (st : State) (c : Change) (b : List ℕ) → obeyed st (asks (change c)) b ≡ ofGiven (given st c) b
+unfolding obeyed given readingLadder requestLadder
+obeyed-change st c b =
+    let n = first (changeLadder st (st .volatile) c) in
+    ⊎-elim (taken st c n b) (turned-down st c n b) (either (eqb n 0))

@@ -12,7 +12,8 @@ use Rattle.model.specs.Stored.{View, holds, shapeless, Answered, Restarted, ofO
 use Rattle.model.proofs.Basics.{and-join, and-split, either}
 use Rattle.model.proofs.Refusing.{step-ill}
 use Rattle.model.proofs.Exact.{other-numbers-exact}
-use Rattle.engine.specs.Fine.{Fine}
+use Rattle.engine.specs.declared.answer.Stepped.{Stepped}
+use Rattle.engine.specs.Fine.{Fine, answeredOf}
 
 pub view-holds : (s : StoredState) → shaped s ≡ true → viewOf s ≡ holds (stateOf s)
 unfolding viewOf
@@ -60,3 +61,10 @@ module _ (s : StoredState) (ill : shaped s && wellFormed (stateOf s) ≡ false) 
       parted
       (λ e. rw (view-shapeless s e) refl)
       (λ e w. rw (view-holds s e) (ap ofOutcome (other-numbers-exact .image-one (stateOf s) b w)))
+
+-- ---- answers
+
+-- an answer whose state has shape
+pub answer-holds : (r : Stepped) (b : List ℕ) → shaped (r .state) ≡ true →
+    answeredOf r b ≡ ofOutcome (record { state = stateOf (r .state); number = r .number; count = r .length; buffer = b })
+answer-holds r b e = rw (view-holds (r .state) e) refl
