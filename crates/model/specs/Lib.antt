@@ -21,4 +21,5 @@ pub mod Image
 pub mod Machine
 pub mod Trace
 pub mod Demand
+pub mod Claims
 pub mod Stored
