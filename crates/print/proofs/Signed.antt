@@ -7,7 +7,8 @@ use lib.Dec.{T}
 use lib.IntN.{ℤ, pos, negsuc, negℤ, natAbs, _+ℤ_, +ℤ-idl}
 use lib.Signed.{ltZ, mag, nonNeg}
 use mir.Syntax.{w64}
-use mir.Val.{SFits}
+use mir.Val.{SFits, toZ, ofZ}
+use mir.Facts.{toZ-ofZ}
 use borrow.Author.Tests.{ltb-true}
 
 pub natAbs-neg : (z : ℤ) → natAbs (negℤ z) ≡ natAbs z
@@ -21,6 +22,10 @@ mag-le (negsuc n) = omega arith
 
 pub small-fits : (z : ℤ) → natAbs z < 2 ^ 63 → SFits w64 z
 small-fits z h = record { sfits = omega (arith, mag-le z) }
+
+-- what the machine reads back from the bits of a small number
+pub back : (z : ℤ) → natAbs z < 2 ^ 63 → toZ w64 (ofZ w64 z) ≡ z
+back z h = toZ-ofZ (small-fits z h)
 
 pub neg-fits : (z : ℤ) → natAbs z < 2 ^ 63 → SFits w64 (pos 0 +ℤ negℤ z)
 neg-fits z h = rw (+ℤ-idl (negℤ z)) (small-fits (negℤ z) (omega (arith, natAbs-neg z)))

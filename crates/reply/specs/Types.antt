@@ -1,0 +1,6 @@
+-- The types of the crate model that the texts are of.
+pub use Rattle.model.specs.declared.Vec3.{Vec3}
+pub use Rattle.model.specs.declared.Turns.{Turns}
+pub use Rattle.model.specs.declared.Group.{Group}
+pub use Rattle.model.specs.declared.Group.the-variants.{Operating, Orientational, Levelling}
+pub use Rattle.model.specs.declared.Memory.{Memory as StoredMemory}
