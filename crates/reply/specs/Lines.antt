@@ -1,19 +1,20 @@
 -- The lines of the lists, of the system that a line shows rather than of its place, and a list by what follows its first lines.
-use Rattle.model.specs.Base.{ℕ, zero, suc, _/_, _^_, List, [], _∷_, _++_, natAbs, length}
-use Prim.Native.Nat.{_≤_, _<_}
+use Rattle.model.specs.Base.{ℕ, zero, suc, List, [], _∷_, _++_, length}
+use Prim.Native.Nat.{_≤_}
 use mathlib.Core.Path.{_≡_}
 use mathlib.Core.Bool.{true}
-use Rattle.reply.specs.Types.{Group, StoredMemory}
+use Rattle.reply.specs.Types.{Vec3, Turns, Group, Operating, Orientational, Levelling, StoredSystem, StoredMemory}
 use Rattle.model.specs.Ascii.{ascii}
 use Rattle.model.specs.Lists.{joined}
-use Rattle.model.specs.Limits.{million, nameLimit, bufferLimit}
+use Rattle.model.specs.Limits.{nameLimit, bufferLimit}
 use Rattle.model.specs.Kinds.{ofKind, ofGroup}
-use Rattle.model.specs.Pose.{Pose, shown}
-use Rattle.model.specs.Memory.{System}
+use Rattle.model.specs.Memory.{System, Ref, fixedRef}
 use Rattle.model.specs.Machine.{written}
 use Rattle.model.specs.Reply.{sixValues, decimal}
 use Rattle.model.specs.Stored.{memoryOf, memoryShaped}
 use Rattle.model.specs.WellFormed.{memoryFine}
+use Rattle.pose.specs.Poses.{Within, Quarters}
+use Rattle.reply.specs.Values.{printable}
 
 -- ---- what the calls promise and ask
 
@@ -28,31 +29,40 @@ pub record Ready (m : StoredMemory) (b : List ℕ) : Type 0 where
   pub fine : memoryFine (memoryOf m) ≡ true
   pub room : bufferLimit ≤ length b
 
+-- a stored system that can be written
+pub record Writable (s : StoredSystem) : Type 0 where
+  pub name-fits : s .name .len ≤ nameLimit
+  pub offsets-fit : Within printable (s .offset)
+  pub turns-fit : Quarters (s .turns)
+
 -- ---- the lines of user systems
 
 -- KLS?
 unfoldable pub systemText : System → List ℕ
 systemText s = joined (ascii "Name=" ∷ s .name ∷ ascii " Type=" ∷ ofKind (s .kind) .shown ∷ sixValues (s .offset) (s .turns) ∷ [])
 
--- the name of the predecessor p of s, where s has one among the user systems
-unfoldable pub predText : System → System → List ℕ
-predText s p = elim (s .pred) [ zero ↦ ofGroup (ofKind (s .kind) .group) .name | suc k ↦ p .name ]
+-- the first at place 0, a fixed system's, and the second at any other
+abbrev pub atFixed : ℕ → List ℕ → List ℕ → List ℕ
+atFixed zero a b = a
+atFixed (suc k) a b = b
+
+-- the name of the predecessor of s: its group's fixed system, or the user system named n
+unfoldable pub predText : System → List ℕ → List ℕ
+predText s n = atFixed (s .pred) (ofGroup (ofKind (s .kind) .group) .name) n
 
 -- KLN?
-unfoldable pub linkText : System → System → List ℕ
-linkText s p = joined (s .name ∷ ascii "=" ∷ predText s p ∷ [])
+unfoldable pub linkText : System → List ℕ → List ℕ
+linkText s n = joined (s .name ∷ ascii "=" ∷ predText s n ∷ [])
 
--- KEN?, of the fixed system (place 0) or the user system s of the group
+-- KEN?, of the group's fixed system (place 0) or its user system s
 unfoldable pub enabledText : Group → ℕ → System → List ℕ
-enabledText g zero s = joined (ofGroup g .name ∷ ascii "=" ∷ ofGroup g .shown ∷ [])
-enabledText g (suc k) s = joined (s .name ∷ ascii "=" ∷ ofKind (s .kind) .shown ∷ [])
+enabledText g p s =
+    atFixed p (joined (ofGroup g .name ∷ ascii "=" ∷ ofGroup g .shown ∷ [])) (joined (s .name ∷ ascii "=" ∷ ofKind (s .kind) .shown ∷ []))
 
 -- KLT?
-unfoldable pub resultantText : List ℕ → Group → Pose → ℕ → List ℕ
-resultantText n g p k =
-    joined (
-    ascii "Name=" ∷ n ∷ ascii " EndCoordinateSystem=" ∷ ofGroup g .end
-    ∷ sixValues (p .at) (shown (p .rot)) ∷ ascii " Steps=" ∷ decimal k ∷ [])
+unfoldable pub resultantText : List ℕ → Group → Vec3 → Turns → ℕ → List ℕ
+resultantText n g t r k =
+    joined (ascii "Name=" ∷ n ∷ ascii " EndCoordinateSystem=" ∷ ofGroup g .end ∷ sixValues t r ∷ ascii " Steps=" ∷ decimal k ∷ [])
 
 -- ---- a list
 
@@ -64,3 +74,7 @@ further t = ascii " \n" ++ t
 unfoldable pub furtherLines : (ℕ → List ℕ) → ℕ → ℕ → List ℕ
 furtherLines f zero k = ascii "\n"
 furtherLines f (suc n) k = further (f k) ++ furtherLines f n (suc k)
+
+-- the lines of the fixed systems, each after the first with the end of the one before
+abbrev pub fixedLines : (Ref → List ℕ) → List ℕ
+fixedLines f = f (fixedRef Operating) ++ (further (f (fixedRef Orientational)) ++ further (f (fixedRef Levelling)))

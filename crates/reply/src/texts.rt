@@ -44,7 +44,7 @@ pub fn put_kind(out: &mut [u8], at: usize, k: Kind) -> usize
 }
 
 // One of three texts, by the group.
-fn put_by_group(out: &mut [u8], at: usize, g: Group, a: &[u8], b: &[u8], c: &[u8]) -> usize
+pub fn put_by_group(out: &mut [u8], at: usize, g: Group, a: &[u8], b: &[u8], c: &[u8]) -> usize
     requires { ⌜ at + length (byGroup g (now a) (now b) (now c)) ≤ length (now out) ⌝ }
     ensures { λ r. ⌜ Wrote (byGroup g (now (a .entry)) (now (b .entry)) (now (c .entry))) (now (out .entry)) at (now (out .exit)) r ⌝ }
 {

@@ -8,7 +8,7 @@ use Rattle.model.specs.Reply.{value}
 use Rattle.print.proofs.Laws.{wrote-then}
 use Rattle.print.proofs.Signed.{back}
 use Rattle.reply.specs.Values.{offsetsText}
-use Rattle.reply.proofs.Values.{length-offsets}
+use Rattle.reply.proofs.ValueLaws.{length-offsets}
 use borrow.Author.Needs.{needs}
 use Rattle.reply.proofs.texts.put_offsets.Statement.{statement}
 use Rattle.reply.proofs.texts.put_offsets.Tie as tie

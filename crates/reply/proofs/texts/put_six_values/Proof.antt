@@ -1,6 +1,6 @@
 use native.Mathlib.Omega.{arith}
 use Rattle.print.proofs.Laws.{wrote-then}
-use Rattle.reply.proofs.Values.{six-split, length-six}
+use Rattle.reply.proofs.ValueLaws.{six-split, length-six}
 use borrow.Author.Needs.{needs}
 use Rattle.reply.proofs.texts.put_six_values.Statement.{statement}
 use Rattle.reply.proofs.texts.put_six_values.Tie as tie

@@ -1,7 +1,7 @@
 use native.Mathlib.Omega.{arith}
 use Rattle.print.proofs.Laws.{wrote-then}
 use Rattle.reply.specs.Values.{turnsText}
-use Rattle.reply.proofs.Values.{length-turns}
+use Rattle.reply.proofs.ValueLaws.{length-turns}
 use borrow.Author.Needs.{needs}
 use Rattle.reply.proofs.texts.put_turns.Statement.{statement}
 use Rattle.reply.proofs.texts.put_turns.Tie as tie
