@@ -33,7 +33,7 @@ pub fn put_name(out: &mut [u8], at: usize, name: Name) -> usize
     put_text(out, at, &bytes[..n])
 }
 
-fn put_byte(out: &mut [u8], at: usize, b: u8) -> usize
+pub fn put_byte(out: &mut [u8], at: usize, b: u8) -> usize
     requires { ⌜ at < length (now out) ⌝ }
     ensures { λ r. ⌜ Wrote (b ∷ []) (now (out .entry)) at (now (out .exit)) r ⌝ }
 {

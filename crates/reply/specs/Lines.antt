@@ -1,9 +1,9 @@
 -- The lines of the lists, of the system that a line shows rather than of its place, and a list by what follows its first lines.
 use Rattle.model.specs.Base.{ℕ, zero, suc, List, [], _∷_, _++_, length}
-use Prim.Native.Nat.{_≤_}
+use Prim.Native.Nat.{_≤_, _<_}
 use mathlib.Core.Path.{_≡_}
 use mathlib.Core.Bool.{true}
-use Rattle.reply.specs.Types.{Vec3, Turns, Group, Operating, Orientational, Levelling, StoredSystem, StoredMemory}
+use Rattle.reply.specs.Types.{Vec3, Turns, Group, Operating, Orientational, Levelling, OperatingPart, Single, Pair, StoredSystem, StoredMemory}
 use Rattle.model.specs.Ascii.{ascii}
 use Rattle.model.specs.Lists.{joined}
 use Rattle.model.specs.Limits.{nameLimit, bufferLimit}
@@ -35,7 +35,11 @@ pub record Writable (s : StoredSystem) : Type 0 where
   pub offsets-fit : Within printable (s .offset)
   pub turns-fit : Quarters (s .turns)
 
--- ---- the lines of user systems
+-- ---- the lines
+
+-- the end of the line before, and another line
+abbrev pub further : List ℕ → List ℕ
+further t = ascii " \n" ++ t
 
 -- KLS?
 unfoldable pub systemText : System → List ℕ
@@ -59,16 +63,30 @@ unfoldable pub enabledText : Group → ℕ → System → List ℕ
 enabledText g p s =
     atFixed p (joined (ofGroup g .name ∷ ascii "=" ∷ ofGroup g .shown ∷ [])) (joined (s .name ∷ ascii "=" ∷ ofKind (s .kind) .shown ∷ []))
 
+-- KEN?, the operating places and lines: one system a, or work a and tool b
+abbrev pub firstPlace : OperatingPart → ℕ
+firstPlace (Single p) = p
+firstPlace (Pair w t) = w
+
+abbrev pub secondPlace : OperatingPart → ℕ
+secondPlace (Single p) = 0
+secondPlace (Pair w t) = t
+
+unfoldable pub operatingText : OperatingPart → System → System → List ℕ
+operatingText (Single p) a b = enabledText Operating p a
+operatingText (Pair w t) a b = enabledText Operating w a ++ further (enabledText Operating t b)
+
+-- the names of those that are user systems can be written
+pub record NamesFit (part : OperatingPart) (a b : StoredSystem) : Type 0 where
+  pub first-fits : 0 < firstPlace part → a .name .len ≤ nameLimit
+  pub second-fits : 0 < secondPlace part → b .name .len ≤ nameLimit
+
 -- KLT?
 unfoldable pub resultantText : List ℕ → Group → Vec3 → Turns → ℕ → List ℕ
 resultantText n g t r k =
     joined (ascii "Name=" ∷ n ∷ ascii " EndCoordinateSystem=" ∷ ofGroup g .end ∷ sixValues t r ∷ ascii " Steps=" ∷ decimal k ∷ [])
 
 -- ---- a list
-
--- the end of the line before, and another line
-abbrev pub further : List ℕ → List ℕ
-further t = ascii " \n" ++ t
 
 -- n further lines from f k on, and the end of the last line
 unfoldable pub furtherLines : (ℕ → List ℕ) → ℕ → ℕ → List ℕ

@@ -3,5 +3,7 @@ pub use Rattle.model.specs.declared.Vec3.{Vec3}
 pub use Rattle.model.specs.declared.Turns.{Turns}
 pub use Rattle.model.specs.declared.Group.{Group}
 pub use Rattle.model.specs.declared.Group.the-variants.{Operating, Orientational, Levelling}
+pub use Rattle.model.specs.declared.OperatingPart.{OperatingPart}
+pub use Rattle.model.specs.declared.OperatingPart.the-variants.{Single, Pair}
 pub use Rattle.model.specs.declared.System.{System as StoredSystem}
 pub use Rattle.model.specs.declared.Memory.{Memory as StoredMemory}
