@@ -22,4 +22,5 @@ pub mod Machine
 pub mod Trace
 pub mod Demand
 pub mod Claims
+pub mod Table
 pub mod Stored
