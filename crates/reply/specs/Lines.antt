@@ -1,9 +1,9 @@
 -- The lines of the lists, of the system that a line shows rather than of its place, and a list by what follows its first lines.
 use Rattle.model.specs.Base.{ℕ, zero, suc, List, [], _∷_, _++_, length}
-use Prim.Native.Nat.{_≤_, _<_}
+use Prim.Native.Nat.{_≤_}
 use mathlib.Core.Path.{_≡_}
 use mathlib.Core.Bool.{true}
-use Rattle.reply.specs.Types.{Vec3, Turns, Group, Operating, Orientational, Levelling, OperatingPart, Single, Pair, StoredSystem, StoredMemory}
+use Rattle.reply.specs.Types.{Vec3, Turns, Group, Operating, Orientational, Levelling, StoredSystem, StoredMemory}
 use Rattle.model.specs.Ascii.{ascii}
 use Rattle.model.specs.Lists.{joined}
 use Rattle.model.specs.Limits.{nameLimit, bufferLimit}
@@ -13,8 +13,7 @@ use Rattle.model.specs.Machine.{written}
 use Rattle.model.specs.Reply.{sixValues, decimal}
 use Rattle.model.specs.Stored.{memoryOf, memoryShaped}
 use Rattle.model.specs.WellFormed.{memoryFine}
-use Rattle.pose.specs.Poses.{Within, Quarters}
-use Rattle.reply.specs.Values.{printable}
+use Rattle.pose.specs.Poses.{Within, Quarters, reach}
 
 -- ---- what the calls promise and ask
 
@@ -32,7 +31,7 @@ pub record Ready (m : StoredMemory) (b : List ℕ) : Type 0 where
 -- a stored system that can be written
 pub record Writable (s : StoredSystem) : Type 0 where
   pub name-fits : s .name .len ≤ nameLimit
-  pub offsets-fit : Within printable (s .offset)
+  pub offsets-fit : Within reach (s .offset)
   pub turns-fit : Quarters (s .turns)
 
 -- ---- the lines
@@ -62,24 +61,6 @@ linkText s n = joined (s .name ∷ ascii "=" ∷ predText s n ∷ [])
 unfoldable pub enabledText : Group → ℕ → System → List ℕ
 enabledText g p s =
     atFixed p (joined (ofGroup g .name ∷ ascii "=" ∷ ofGroup g .shown ∷ [])) (joined (s .name ∷ ascii "=" ∷ ofKind (s .kind) .shown ∷ []))
-
--- KEN?, the operating places and lines: one system a, or work a and tool b
-abbrev pub firstPlace : OperatingPart → ℕ
-firstPlace (Single p) = p
-firstPlace (Pair w t) = w
-
-abbrev pub secondPlace : OperatingPart → ℕ
-secondPlace (Single p) = 0
-secondPlace (Pair w t) = t
-
-unfoldable pub operatingText : OperatingPart → System → System → List ℕ
-operatingText (Single p) a b = enabledText Operating p a
-operatingText (Pair w t) a b = enabledText Operating w a ++ further (enabledText Operating t b)
-
--- the names of those that are user systems can be written
-pub record NamesFit (part : OperatingPart) (a b : StoredSystem) : Type 0 where
-  pub first-fits : 0 < firstPlace part → a .name .len ≤ nameLimit
-  pub second-fits : 0 < secondPlace part → b .name .len ≤ nameLimit
 
 -- KLT?
 unfoldable pub resultantText : List ℕ → Group → Vec3 → Turns → ℕ → List ℕ

@@ -1,8 +1,7 @@
--- Own values and resultants as text, by parts, and how large they may be to be written.
-use Rattle.model.specs.Base.{ℕ, _*_, _-_, _^_, List, [], _∷_, _++_}
+-- Own values and resultants as text, by parts.
+use Rattle.model.specs.Base.{ℕ, List, [], _∷_, _++_}
 use Rattle.reply.specs.Types.{Vec3, Turns, Group, Operating, Orientational, Levelling}
 use Rattle.model.specs.Lists.{joined}
-use Rattle.model.specs.Limits.{million}
 use Rattle.model.specs.Reply.{value, degrees}
 
 -- one of three, by the group
@@ -22,7 +21,3 @@ offsetsText t = (axisText 88 ++ value (t .x)) ++ ((axisText 89 ++ value (t .y)) 
 -- U= to W=
 unfoldable pub turnsText : Turns → List ℕ
 turnsText r = (axisText 85 ++ degrees (r .u)) ++ ((axisText 86 ++ degrees (r .v)) ++ (axisText 87 ++ degrees (r .w)))
-
--- the largest offset that can be written, far beyond what sixteen own offsets add up to
-abbrev pub printable : ℕ
-printable = million * 2 ^ 32 - 1

@@ -20,9 +20,8 @@ ghost use lib.ListN.{length};
 ghost use Rattle.model.specs.Limits.{nameLimit};
 ghost use Rattle.model.specs.Stored.{bytesOf, systemOf};
 ghost use Rattle.model.specs.Reply.{systemLine, linkLine, resultantLine};
-ghost use Rattle.pose.specs.Poses.{Within, Quarters};
+ghost use Rattle.pose.specs.Poses.{Within, Quarters, reach};
 ghost use Rattle.print.specs.Over.{Wrote};
-ghost use Rattle.reply.specs.Values.{printable};
 ghost use Rattle.reply.specs.Lines.{Writable, systemText, predText, linkText, enabledText, resultantText, further, fixedLines};
 
 // ---- KLS?
@@ -157,7 +156,7 @@ pub fn put_resultant(
     r: Turns,
     steps: u8,
 ) -> usize
-    requires { ⌜ (name .len ≤ nameLimit) × Within printable t × Quarters r × (at + length (resultantText (bytesOf name) g t r steps) ≤ length (now out)) ⌝ }
+    requires { ⌜ (name .len ≤ nameLimit) × Within reach t × Quarters r × (at + length (resultantText (bytesOf name) g t r steps) ≤ length (now out)) ⌝ }
     ensures { λ n. ⌜ Wrote (resultantText (bytesOf name) g t r steps) (now (out .entry)) at (now (out .exit)) n ⌝ }
 {
     let a = put_text(out, at, b"Name=");
@@ -166,7 +165,7 @@ pub fn put_resultant(
     let d = put_end(out, c, g);
     let e = put_six_values(out, d, t, r);
     let f = put_text(out, e, b" Steps=");
-    put_decimal(out, f, steps as u32)
+    put_decimal(out, f, steps as u64)
 }
 
 pub fn put_further_resultant(
@@ -177,7 +176,7 @@ pub fn put_further_resultant(
     r: Turns,
     steps: u8,
 ) -> usize
-    requires { ⌜ (name .len ≤ nameLimit) × Within printable t × Quarters r × (length (further (resultantText (bytesOf name) g t r steps)) ≤ length (now part)) ⌝ }
+    requires { ⌜ (name .len ≤ nameLimit) × Within reach t × Quarters r × (length (further (resultantText (bytesOf name) g t r steps)) ≤ length (now part)) ⌝ }
     ensures { λ n. ⌜ Wrote (further (resultantText (bytesOf name) g t r steps)) (now (part .entry)) 0 (now (part .exit)) n ⌝ }
 {
     let a = put_text(part, 0, b" \n");

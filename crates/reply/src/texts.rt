@@ -14,8 +14,8 @@ ghost use lib.IntN.{natAbs};
 ghost use Rattle.model.specs.Kinds.{ofKind, ofGroup};
 ghost use Rattle.model.specs.Reply.{value, degrees, sixValues};
 ghost use Rattle.print.specs.Over.{Wrote};
-ghost use Rattle.pose.specs.Poses.{Within, Quarters};
-ghost use Rattle.reply.specs.Values.{byGroup, axisText, offsetsText, turnsText, printable};
+ghost use Rattle.pose.specs.Poses.{Within, Quarters, reach};
+ghost use Rattle.reply.specs.Values.{byGroup, axisText, offsetsText, turnsText};
 
 pub fn group_of(k: Kind) -> Group
     ensures { λ r. ⌜ r ≡ ofKind k .group ⌝ }
@@ -83,7 +83,7 @@ fn put_axis(out: &mut [u8], at: usize, axis: u8) -> usize
 }
 
 fn put_offset(out: &mut [u8], at: usize, axis: u8, z: i64) -> usize
-    requires { ⌜ (natAbs z ≤ printable) × (at + 3 + length (value z) ≤ length (now out)) ⌝ }
+    requires { ⌜ (natAbs z ≤ reach) × (at + 3 + length (value z) ≤ length (now out)) ⌝ }
     ensures { λ r. ⌜ Wrote (axisText axis ++ value z) (now (out .entry)) at (now (out .exit)) r ⌝ }
 {
     let i = put_axis(out, at, axis);
@@ -99,7 +99,7 @@ fn put_turn(out: &mut [u8], at: usize, axis: u8, quarters: u8) -> usize
 }
 
 fn put_offsets(out: &mut [u8], at: usize, t: Vec3) -> usize
-    requires { ⌜ Within printable t × (at + length (offsetsText t) ≤ length (now out)) ⌝ }
+    requires { ⌜ Within reach t × (at + length (offsetsText t) ≤ length (now out)) ⌝ }
     ensures { λ r. ⌜ Wrote (offsetsText t) (now (out .entry)) at (now (out .exit)) r ⌝ }
 {
     let i = put_offset(out, at, b'X', t.x);
@@ -118,7 +118,7 @@ fn put_turns(out: &mut [u8], at: usize, r: Turns) -> usize
 
 // The six values, each after a space and its axis.
 pub fn put_six_values(out: &mut [u8], at: usize, t: Vec3, r: Turns) -> usize
-    requires { ⌜ Within printable t × Quarters r × (at + length (sixValues t r) ≤ length (now out)) ⌝ }
+    requires { ⌜ Within reach t × Quarters r × (at + length (sixValues t r) ≤ length (now out)) ⌝ }
     ensures { λ n. ⌜ Wrote (sixValues t r) (now (out .entry)) at (now (out .exit)) n ⌝ }
 {
     let i = put_offsets(out, at, t);

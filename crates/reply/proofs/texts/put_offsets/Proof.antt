@@ -6,7 +6,7 @@ use mir.Syntax.{w64}
 use mir.Val.{toZ, ofZ}
 use Rattle.model.specs.Reply.{value}
 use Rattle.print.proofs.Laws.{wrote-then}
-use Rattle.print.proofs.Signed.{back}
+use Rattle.pose.proofs.Signed.{back}
 use Rattle.reply.specs.Values.{offsetsText}
 use Rattle.reply.proofs.ValueLaws.{length-offsets}
 use borrow.Author.Needs.{needs}
