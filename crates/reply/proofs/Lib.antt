@@ -4,3 +4,4 @@ pub mod ListLaws
 pub mod StoredLaws
 pub mod TurnLaws
 pub mod ShortLaws
+pub mod PlanLaws

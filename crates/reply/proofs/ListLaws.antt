@@ -40,6 +40,11 @@ every-list line l =
     ∙ further-lines (λ k. line (userRef l k)) (length l) 1 (λ i. line (userRef l (suc i))) (line (fixedRef Levelling)) (λ i. rw (one-add i)) in
     three (line (fixedRef Operating)) (line (fixedRef Orientational)) (line (fixedRef Levelling)) _ _ e
 
+-- of a line whose text for a fixed system is the same in every memory, and n user systems
+pub list-of : (line : List System → Ref → List ℕ) (l : List System) (n : ℕ) → fixedLines (line l) ≡ fixedLines (line []) → length l ≡ n
+    → listing (map (line l) (everySystem l)) ≡ fixedLines (line []) ++ furtherLines (λ k. line l (userRef l k)) n 1
+list-of line l n e h = every-list (line l) l ∙ rw (e, h)
+
 -- ---- the loop over the user systems
 
 -- i of count further lines are written: b, with the rest of them written over it from place at, is what all of them make of the buffer b₀
@@ -81,6 +86,9 @@ module _ {f : ℕ → List ℕ} {count : ℕ} {b₀ : List ℕ} {at₀ : ℕ} {b
   pub going-room : i < count → length (further (f (suc i))) ≤ length (take (length b - at) (drop at b))
   going-room h = rw (length-take, length-drop) (omega (arith, going-fits h))
 
+  pub going-on : {n : ℕ} → i < count → n ≡ 0 + length (further (f (suc i))) → at + n ≤ length b
+  going-on h e = omega (arith, going-fits h)
+
   pub going-within : at < length b
   going-within = omega (arith, g .room, g .left, g .long, some-left f (count - i) (suc i))
 
@@ -110,3 +118,19 @@ module _ {f : ℕ → List ℕ} {count : ℕ} {b₀ : List ℕ} {at₀ : ℕ} {b
 
 pub replied : {t before after : List ℕ} {r : ℕ} → length t ≤ length before → Wrote t before 0 after r → Replied t before after r
 replied {t} {before} h w = record { count-is = omega (arith, w .place); bytes = w .bytes ∙ over-front t before h }
+
+-- a list that begins with these fixed lines, goes on with count further ones, and fits the buffer b
+pub record Plan (all fixed : List ℕ) (f : ℕ → List ℕ) (count : ℕ) (b : List ℕ) : Type 0 where
+  pub whole : all ≡ fixed ++ furtherLines f count 1
+  pub fits : length all ≤ length b
+
+module _ {all fixed : List ℕ} {f : ℕ → List ℕ} {count : ℕ} {b : List ℕ} (p : Plan all fixed f count b) where
+  pub plan-room : length fixed + length (furtherLines f count 1) ≤ length b
+  plan-room = omega (arith, p .fits, ap length (p .whole), length-append fixed (furtherLines f count 1))
+
+  module _ {b₀ : List ℕ} {at₀ : ℕ} (w : Wrote fixed b 0 b₀ at₀) where
+    pub plan-start : Going f count b₀ at₀ b₀ at₀ 0
+    plan-start = going-start f count b₀ at₀ (omega (arith, plan-room, w .place, ap length (w .bytes), length-over fixed b 0))
+
+    pub plan-end : {b₁ a : List ℕ} {at i r : ℕ} → Going f count b₀ at₀ b₁ at i → count ≤ i → Wrote (10 ∷ []) b₁ at a r → Replied all b a r
+    plan-end g h e = replied (p .fits) (rw (p .whole) (wrote-then w (going-end g h e)))

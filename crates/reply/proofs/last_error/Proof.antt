@@ -1,26 +1,26 @@
+use native.Mathlib.Omega.{arith}
+use lib.ListN.{length-append}
 use borrow.Author.Needs.{needs}
+use Rattle.print.proofs.Laws.{decimal-short, wrote-then}
+use Rattle.reply.proofs.ListLaws.{replied}
 use Rattle.reply.proofs.last_error.Statement.{statement}
 use Rattle.reply.proofs.last_error.Tie as tie
-use Rattle.reply.proofs.last_error.Reads as reads
-use Rattle.reply.proofs.last_error.Lts as lts
-use Rattle.print.proofs.put_byte.Reads as put-byte-reads
-use Rattle.print.proofs.put_decimal.Reads as put-decimal-reads
 
--- src/lib.rt:46:9
 put-decimal-requires : tie.Need-put-decimal-requires
-put-decimal-requires c κs = ?
+put-decimal-requires c κs = omega (arith, decimal-short (c .before .before .args .number))
 
--- src/lib.rt:47:5
 put-byte-requires : tie.Need-put-byte-requires
-put-byte-requires c κs = ?
+put-byte-requires c κs = omega (arith, decimal-short (c .before .before .before .before .before .before .args .number))
 
--- src/lib.rt:42:1
 same-length : tie.Need-same-length
 same-length c = search needs
 
--- src/lib.rt:42:1
 returns : tie.Need-returns
-returns c = ?
+returns c =
+    let e = c .before .before in
+    let d = e .before .before .before .before in
+    let s = d .before .before .before in
+    replied (rw length-append (omega (arith, s .pre, decimal-short (s .args .number)))) (wrote-then (d .put-decimal .ensures) (e .put-byte .ensures))
 
 pub last-error-spec : {M : Type 1} → statement M
 last-error-spec = tie.close (tie.spec put-decimal-requires put-byte-requires same-length returns)
