@@ -5,3 +5,4 @@ pub mod StoredLaws
 pub mod TurnLaws
 pub mod ShortLaws
 pub mod PlanLaws
+pub mod EnabledLaws

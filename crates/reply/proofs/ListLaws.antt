@@ -13,7 +13,7 @@ use Rattle.model.specs.Machine.{written}
 use Rattle.model.specs.Reply.{listing, everySystem}
 use Rattle.model.proofs.Carry.{map-table}
 use Rattle.print.specs.Over.{over, Wrote}
-use Rattle.print.proofs.Laws.{length-over, over-append, over-front, wrote-then, wrote-part}
+use Rattle.print.proofs.Laws.{length-over, over-append, over-front, wrote-then, wrote-part, rest-room}
 use Rattle.reply.specs.Types.{Operating, Orientational, Levelling}
 use Rattle.reply.specs.Lines.{further, furtherLines, fixedLines, Replied}
 
@@ -84,7 +84,7 @@ module _ {f : ℕ → List ℕ} {count : ℕ} {b₀ : List ℕ} {at₀ : ℕ} {b
 
   -- there is room for another line in the rest of the buffer
   pub going-room : i < count → length (further (f (suc i))) ≤ length (take (length b - at) (drop at b))
-  going-room h = rw (length-take, length-drop) (omega (arith, going-fits h))
+  going-room h = rest-room b at _ (going-fits h)
 
   pub going-on : {n : ℕ} → i < count → n ≡ 0 + length (further (f (suc i))) → at + n ≤ length b
   going-on h e = omega (arith, going-fits h)

@@ -1,57 +1,57 @@
-use mathlib.Core.Path.{_≡_, refl}
-use mathlib.Core.List.{[]}
-use native.Mathlib.Omega.{arith}
-use lib.ListN.{length}
-use Rattle.model.specs.Reply.{resultantLine}
-use Rattle.model.proofs.Open.{definitions-open}
-use Rattle.print.proofs.Laws.{wrote-then}
-use Rattle.reply.specs.Lines.{fixedLines}
 use borrow.Author.Needs.{needs}
 use Rattle.reply.proofs.lines.put_fixed_resultants.Statement.{statement}
 use Rattle.reply.proofs.lines.put_fixed_resultants.Tie as tie
+use Rattle.reply.proofs.lines.put_fixed_resultants.Reads as reads
+use Rattle.reply.proofs.lines.put_fixed_resultants.Lts as lts
+use Rattle.print.proofs.put_text.Reads as put-text-reads
+use Rattle.reply.proofs.lines.put_fixed_resultant.Reads as put-fixed-resultant-reads
 
-long : length (fixedLines (resultantLine [])) ≡ 345
-unfolding definitions-open
-long = refl
+-- src/lines.rt:149:9
+put-fixed-resultant-requires : tie.Need-put-fixed-resultant-requires
+put-fixed-resultant-requires c κs = ?
 
+-- src/lines.rt:150:30
 slice-aggregate-put-text : tie.Need-slice-aggregate-put-text
 slice-aggregate-put-text c = search needs
 
+-- src/lines.rt:150:9
 put-text-requires : tie.Need-put-text-requires
-put-text-requires c κs = omega (arith, long)
+put-text-requires c κs = ?
 
+-- src/lines.rt:151:9
+put-fixed-resultant-requires-2 : tie.Need-put-fixed-resultant-requires-2
+put-fixed-resultant-requires-2 c κs = ?
+
+-- src/lines.rt:152:30
 slice-aggregate-put-text-2 : tie.Need-slice-aggregate-put-text-2
 slice-aggregate-put-text-2 c = search needs
 
+-- src/lines.rt:152:9
 put-text-requires-2 : tie.Need-put-text-requires-2
-put-text-requires-2 c κs = omega (arith, long)
+put-text-requires-2 c κs = ?
 
-slice-aggregate-put-text-3 : tie.Need-slice-aggregate-put-text-3
-slice-aggregate-put-text-3 c = search needs
+-- src/lines.rt:153:5
+put-fixed-resultant-requires-3 : tie.Need-put-fixed-resultant-requires-3
+put-fixed-resultant-requires-3 c κs = ?
 
-put-text-requires-3 : tie.Need-put-text-requires-3
-put-text-requires-3 c κs = omega (arith, long)
-
+-- src/lines.rt:145:1
 same-length : tie.Need-same-length
 same-length c = search needs
 
+-- src/lines.rt:145:1
 returns : tie.Need-returns
-unfolding definitions-open
-returns c =
-    let v = c .before .before in
-    let b = v .before .before .before .before .before in
-    let z = b .before .before .before .before .before in
-    wrote-then (z .put-text .ensures) (wrote-then (b .put-text2 .ensures) (v .put-text3 .ensures))
+returns c = ?
 
 pub put-fixed-resultants-spec : {M : Type 1} → statement M
 put-fixed-resultants-spec =
     tie.close
     (tie.spec
+    put-fixed-resultant-requires
     slice-aggregate-put-text
     put-text-requires
+    put-fixed-resultant-requires-2
     slice-aggregate-put-text-2
     put-text-requires-2
-    slice-aggregate-put-text-3
-    put-text-requires-3
+    put-fixed-resultant-requires-3
     same-length
     returns)
