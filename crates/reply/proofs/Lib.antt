@@ -6,3 +6,4 @@ pub mod TurnLaws
 pub mod ShortLaws
 pub mod PlanLaws
 pub mod EnabledLaws
+pub mod ReachLaws

@@ -1,33 +1,41 @@
+use mathlib.Core.Path.{_≡_, refl}
+use mathlib.Core.List.{[]}
+use Rattle.model.specs.Ascii.{ascii}
+use Rattle.model.specs.Memory.{fixedRef}
+use Rattle.model.specs.Reply.{resultantLine}
+use Rattle.model.proofs.Open.{definitions-open}
+use Rattle.reply.specs.Types.{Group, Operating, Orientational, Levelling}
+use Rattle.reply.specs.Values.{byGroup}
 use borrow.Author.Needs.{needs}
 use Rattle.reply.proofs.lines.put_fixed_resultant.Statement.{statement}
 use Rattle.reply.proofs.lines.put_fixed_resultant.Tie as tie
-use Rattle.reply.proofs.lines.put_fixed_resultant.Reads as reads
-use Rattle.reply.proofs.lines.put_fixed_resultant.Lts as lts
-use Rattle.reply.proofs.texts.put_by_group.Reads as put-by-group-reads
 
--- src/lines.rt:139:9
+is : (g : Group) → resultantLine [] (fixedRef g) ≡ byGroup g
+    (ascii "Name=ZERO EndCoordinateSystem=ZERO X=0.000000 Y=0.000000 Z=0.000000 U=0.000000 V=0.000000 W=0.000000 Steps=0")
+    (ascii "Name=PI_BASE EndCoordinateSystem=HEXAPOD X=0.000000 Y=0.000000 Z=0.000000 U=0.000000 V=0.000000 W=0.000000 Steps=0")
+    (ascii "Name=PI_LEVELLING EndCoordinateSystem=HEXAPOD X=0.000000 Y=0.000000 Z=0.000000 U=0.000000 V=0.000000 W=0.000000 Steps=0")
+unfolding definitions-open
+is Operating = refl
+is Orientational = refl
+is Levelling = refl
+
 slice-aggregate-put-by-group : tie.Need-slice-aggregate-put-by-group
 slice-aggregate-put-by-group c = search needs
 
--- src/lines.rt:140:9
 slice-aggregate-put-by-group-2 : tie.Need-slice-aggregate-put-by-group-2
 slice-aggregate-put-by-group-2 c = search needs
 
--- src/lines.rt:141:9
 slice-aggregate-put-by-group-3 : tie.Need-slice-aggregate-put-by-group-3
 slice-aggregate-put-by-group-3 c = search needs
 
--- src/lines.rt:135:5
 put-by-group-requires : tie.Need-put-by-group-requires
-put-by-group-requires c κs = ?
+put-by-group-requires c κs = let s = c .before .before .before .before .before in rw (is (s .args .g)) at (s .pre)
 
--- src/lines.rt:131:1
 same-length : tie.Need-same-length
 same-length c = search needs
 
--- src/lines.rt:131:1
 returns : tie.Need-returns
-returns c = ?
+returns c = let k = c .before .before in rw (is (c .before .before .before .before .before .before .before .before .args .g)) (k .put-by-group .ensures)
 
 pub put-fixed-resultant-spec : {M : Type 1} → statement M
 put-fixed-resultant-spec =

@@ -1,26 +1,21 @@
+use Rattle.pose.proofs.Naming.{shown-quarters}
 use borrow.Author.Needs.{needs}
 use Rattle.reply.proofs.resultants.put_reached.Statement.{statement}
 use Rattle.reply.proofs.resultants.put_reached.Tie as tie
-use Rattle.reply.proofs.resultants.put_reached.Reads as reads
-use Rattle.reply.proofs.resultants.put_reached.Lts as lts
-use Rattle.pose.proofs.rotation.shown_of.Reads as shown-of-reads
-use Rattle.reply.proofs.lines.put_resultant.Reads as put-resultant-reads
 
--- src/resultants.rt:38:9
 shown-of-requires : tie.Need-shown-of-requires
 shown-of-requires c κs = search needs
 
--- src/resultants.rt:39:5
 put-resultant-requires : tie.Need-put-resultant-requires
-put-resultant-requires c κs = ?
+put-resultant-requires c κs =
+    let s = c .before .before .before .before .before in
+    rw (c .before .shown-of .ensures) (s .pre .0, s .pre .1, shown-quarters (s .args .r .pose .rot), s .pre .2)
 
--- src/resultants.rt:32:1
 same-length : tie.Need-same-length
 same-length c = search needs
 
--- src/resultants.rt:32:1
 returns : tie.Need-returns
-returns c = ?
+returns c = let k = c .before .before in rw (k .before .before .shown-of .ensures) at (k .put-resultant .ensures)
 
 pub put-reached-spec : {M : Type 1} → statement M
 put-reached-spec =
