@@ -1,12 +1,11 @@
 -- KEN? by its parts.
-use Prim.Native.Nat.{ℕ, zero, suc, _+_, _-_, _≤_, _<_}
-use mathlib.Core.Path.{_≡_, refl, sym, ap, _∙_}
-use mathlib.Core.Bool.{Bool, true, false, false≢true}
+use Prim.Native.Nat.{ℕ, _+_, _-_, _≤_, _<_}
+use mathlib.Core.Path.{_≡_, refl, sym}
+use mathlib.Core.Bool.{true, false, false≢true}
 use mathlib.Core.List.{List, [], _∷_, _++_, map, append-assoc, append-nil}
 use native.Mathlib.Omega.{arith}
 use native.Mathlib.Decide.{decLt}
 use lib.ListN.{length, getD, length-append}
-use Rattle.model.specs.Kinds.{ofKind}
 use Rattle.model.specs.Lists.{joined}
 use Rattle.model.specs.Memory.{System, Ref}
 use Rattle.model.specs.Stored.{systemOf, systemsOf, memoryOf}
@@ -15,7 +14,7 @@ use Rattle.model.specs.Request.{enabledOnes}
 use Rattle.model.specs.Reply.{listing, enabledLine, listed}
 use Rattle.model.proofs.Fine.{Placed, PartPlaced, fine-of}
 use Rattle.chains.proofs.Copies.{unset}
-use Rattle.reply.specs.Types.{Kind, Operating, Orientational, Levelling, Enabled, OperatingPart, Single, Pair, StoredSystem, StoredMemory}
+use Rattle.reply.specs.Types.{Kind, Operating, Orientational, Levelling, Enabled, OperatingPart, Single, Pair, StoredMemory}
 use Rattle.reply.specs.Lines.{Ready, further, enabledText}
 use Rattle.reply.specs.EnabledText.{firstPlace, toolPlace, pair?, toolText, groupsText}
 use Rattle.reply.proofs.StoredLaws.{count-is}

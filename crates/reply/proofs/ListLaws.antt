@@ -1,15 +1,14 @@
 -- A list by what follows its first lines, and what its loop keeps.
-use Prim.Native.Nat.{ℕ, zero, suc, _+_, _-_, _*_, _≤_, _<_}
-use mathlib.Core.Path.{_≡_, refl, sym, ap, subst, _∙_}
+use Prim.Native.Nat.{ℕ, zero, suc, _+_, _-_, _≤_, _<_}
+use mathlib.Core.Path.{_≡_, refl, sym, ap, _∙_}
 use mathlib.Core.List.{List, [], _∷_, _++_, map, append-assoc, append-nil}
 use native.Mathlib.Nat.{add-zero}
-use native.Mathlib.Numerals.{add-one, one-add}
+use native.Mathlib.Numerals.{one-add}
 use native.Mathlib.Omega.{arith}
-use lib.ListN.{length, take, drop, length-append, length-take, length-drop}
-use borrow.Rule.Slice.PartMut.{putMid, same-len-mid}
+use lib.ListN.{length, take, drop, length-append}
+use borrow.Rule.Slice.PartMut.{putMid}
 use Rattle.model.specs.Lists.{joined, table}
 use Rattle.model.specs.Memory.{System, Ref, fixedRef, userRef}
-use Rattle.model.specs.Machine.{written}
 use Rattle.model.specs.Reply.{listing, everySystem}
 use Rattle.model.proofs.Carry.{map-table}
 use Rattle.print.specs.Over.{over, Wrote}

@@ -1,5 +1,5 @@
 -- How each list of a well-formed stored memory is made up.
-use Prim.Native.Nat.{ℕ, _≤_}
+use Prim.Native.Nat.{ℕ}
 use mathlib.Core.Path.{_≡_, refl, _∙_}
 use mathlib.Core.List.{List, [], map}
 use native.Mathlib.Omega.{arith}

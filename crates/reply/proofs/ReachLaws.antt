@@ -1,14 +1,15 @@
 -- The walk over a memory laid flat reaches what the line of a place shows.
-use Prim.Native.Nat.{ℕ, suc, _+_, _*_, _≤_, _<_}
+use Prim.Native.Nat.{ℕ, zero, suc, _-_, _≤_, _<_}
 use mathlib.Core.Path.{_≡_, refl, sym, ap, subst, _∙_}
-use mathlib.Core.List.{List}
+use mathlib.Core.List.{List, []}
 use native.Mathlib.Omega.{arith}
 use lib.IntN.{ℤ}
 use lib.ListN.{length, take, getD, length-take, length-map}
 use Rattle.model.specs.Kinds.{ofKind}
-use Rattle.model.specs.Memory.{System, systemAt, nameOf, userRef}
+use Rattle.model.specs.Memory.{System, systemAt, nameOf, fixedRef, userRef}
 use Rattle.model.specs.Reply.{resultantLine}
 use Rattle.model.specs.Stored.{bytesOf, systemsOf, memoryOf}
+use Rattle.model.proofs.Open.{definitions-open}
 use Rattle.pose.specs.Poses.{Within, reach}
 use Rattle.chains.specs.Flat.{predsOf, LinksOf}
 use Rattle.chains.specs.Frames.{framed, framesOf}
@@ -16,16 +17,27 @@ use Rattle.chains.specs.Walk.{Walk, walked, Walkable, Laid, Enough}
 use Rattle.chains.proofs.Copies.{unset}
 use Rattle.chains.proofs.Reaching.{resultant-within}
 use Rattle.chains.proofs.Ready.{walkable, ready, ready-at, ready-walk}
-use Rattle.reply.specs.Types.{StoredMemory}
+use Rattle.reply.specs.Types.{Group, StoredMemory}
 use Rattle.reply.specs.Lines.{Ready, resultantText}
-use Rattle.reply.specs.Reached.{reachedText}
+use Rattle.reply.specs.Reached.{reachedText, refAt}
 use Rattle.reply.proofs.StoredLaws.{few, count-is, stands-at}
 
 line-at : (l : List System) (i : ℕ) → let s = systemAt l (suc i) in resultantLine l (userRef l (suc i)) ≡ reachedText (s .name) (ofKind (s .kind) .group) (walked l (suc i))
 unfolding resultantLine nameOf resultantText
 line-at l i = refl
 
--- a well-formed memory, and its numbers laid flat
+-- ---- which system a place is
+
+pub ref-fixed : (l : List System) (g : Group) (p : ℕ) → p ≡ 0 → resultantLine l (refAt l g p) ≡ resultantLine [] (fixedRef g)
+unfolding definitions-open
+ref-fixed l g p e = rw e
+
+pub ref-user : (l : List System) (g : Group) (p : ℕ) → (p ≡ 0 → ⊥) → refAt l g p ≡ userRef l (suc (p - 1))
+ref-user l g zero h = absurd (h refl)
+ref-user l g (suc k) h = let e : suc k - 1 ≡ k = omega arith in rw e
+
+-- ---- a well-formed memory, and its numbers laid flat
+
 pub record FlatOf (m : StoredMemory) (buffer preds : List ℕ) (offsets : List ℤ) (turns : List ℕ) : Type 0 where
   pub good : Ready m buffer
   pub long : length (m .systems) ≡ 16

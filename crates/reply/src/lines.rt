@@ -13,7 +13,6 @@ use model::Vec3;
 use print::put_decimal;
 use print::put_name;
 use print::put_text;
-ghost use mathlib.Core.Path.{_≡_};
 ghost use mathlib.Core.List.{[]};
 ghost use Prim.Native.Nat.{_+_, _≤_, _<_};
 ghost use lib.ListN.{length};

@@ -14,7 +14,6 @@ use model::Name;
 use pose::rotation::shown_of;
 use print::put_byte;
 use print::put_text;
-ghost use mathlib.Core.Path.{_≡_};
 ghost use mathlib.Core.List.{_∷_, []};
 ghost use Prim.Native.Nat.{_+_, _≤_};
 ghost use lib.ListN.{length};
