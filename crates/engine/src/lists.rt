@@ -14,7 +14,8 @@ ghost use lib.ListN.{length};
 ghost use Rattle.model.specs.Limits.{bufferLimit};
 ghost use Rattle.model.specs.Request.{asks, list, lastError, enabledOnes, systemsAll, links, resultants, resultantOf};
 ghost use Rattle.model.specs.Stored.{bytesOf, ofOutcome, stateOf};
-ghost use Rattle.engine.specs.Fine.{Fine, answeredOf};
+ghost use Rattle.model.specs.Machine.{answered};
+ghost use Rattle.engine.specs.Fine.{Fine, answeredOf, oneLine};
 ghost use Rattle.engine.specs.Obeyed.{obeyed};
 
 const ABSENT: u8 = 7;
@@ -65,6 +66,10 @@ pub fn resultants_line(s: State, reply: &mut [u8]) -> Stepped
 
 // One system's line, by its place in its group.
 fn one_line(s: State, group: Group, place: u8, reply: &mut [u8]) -> Stepped
+    requires { ⌜ Fine s ⌝ }
+    requires { ⌜ bufferLimit ≤ length (now reply) ⌝ }
+    requires { ⌜ place ≤ s .volatile .count ⌝ }
+    ensures { λ r. ⌜ answeredOf r (now (reply .exit)) ≡ ofOutcome (answered (stateOf s) (oneLine (s .volatile) group place) (now (reply .entry))) ⌝ }
 {
     let m = s.volatile;
     let n = reply::resultants::resultant_at(m, group, place, reply);

@@ -10,7 +10,7 @@ use borrow.Rule.Slice.PartMut.{putMid}
 use Rattle.model.specs.Lists.{joined, table}
 use Rattle.model.specs.Memory.{System, Ref, fixedRef, userRef}
 use Rattle.model.specs.Reply.{listing, everySystem}
-use Rattle.model.proofs.Carry.{map-table}
+use Rattle.model.proofs.Basics.{map-table}
 use Rattle.print.specs.Over.{over, Wrote}
 use Rattle.print.proofs.Laws.{length-over, over-append, over-front, wrote-then, wrote-part, rest-room}
 use Rattle.reply.specs.Types.{Operating, Orientational, Levelling}
