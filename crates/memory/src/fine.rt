@@ -1,9 +1,9 @@
 // The test for well-formedness: shape is judged on the stored value, all else on what it stands for.
+use crate::distinct::names_differ;
 use crate::kinds::is_kind;
 use crate::kinds::kind_codes;
 use crate::kinds::turns_only;
 use crate::names::name_fine;
-use crate::names::same_name;
 use chains::links::held;
 use chains::links::links_of;
 use chains::links::no_ring;
@@ -24,7 +24,7 @@ ghost use mathlib.Core.List.{List};
 ghost use Rattle.model.specs.Memory.{System as SystemOf};
 ghost use Rattle.model.specs.Chain.{noRing};
 ghost use Rattle.model.specs.Words.{offset?};
-ghost use Rattle.model.specs.WellFormed.{offsetsFine, noOffset, turnsFine, namesDiffer, operatingFine, enabledFine, memoryFine, wellFormed};
+ghost use Rattle.model.specs.WellFormed.{offsetsFine, noOffset, turnsFine, operatingFine, enabledFine, memoryFine, wellFormed};
 ghost use Rattle.model.specs.Stored.{systemOf, systemsOf, memoryOf, stateOf, memoryShaped, shaped};
 ghost use Rattle.memory.specs.Codes.{codesOf};
 ghost use Rattle.memory.specs.Fine.{aloneFine, storedFine, storedAllFine};
@@ -137,31 +137,6 @@ fn typed_fine(m: Memory) -> bool
     }
     let e = m.enabled;
     enabled_fine(codes, e)
-}
-
-// No two systems have one name: every pair once, the later of the two running fastest.
-fn names_differ(m: Memory) -> bool
-    ensures { λ r. ⌜ r ≡ namesDiffer (systemsOf m) ⌝ }
-{
-    let count = held(m.count);
-    let mut i = 0;
-    let mut j = 1;
-    while i < count {
-        if j < count {
-            let s = m.systems[i];
-            let a = s.name;
-            let t = m.systems[j];
-            let b = t.name;
-            if same_name(a, b) {
-                return false;
-            }
-            j += 1;
-        } else {
-            i += 1;
-            j = i + 1;
-        }
-    }
-    true
 }
 
 // No chain is a ring.
