@@ -13,7 +13,7 @@ pub struct Word {
     pub end: usize,
 }
 
-pub fn between(low: u8, high: u8, b: u8) -> bool
+pub(crate) fn between(low: u8, high: u8, b: u8) -> bool
     ensures { λ r. ⌜ r ≡ lists.between low high b ⌝ }
 {
     low <= b && b <= high
@@ -30,7 +30,7 @@ pub fn upper(b: u8) -> u8
 }
 
 // Past the spaces at a place.
-pub fn past_spaces(line: &[u8], at: usize) -> usize
+pub(crate) fn past_spaces(line: &[u8], at: usize) -> usize
     requires { ⌜ at ≤ length (now line) ⌝ }
     ensures { λ r. ⌜ r ≡ at + blanks (drop at (now (line .entry))) ⌝ }
 {

@@ -29,12 +29,12 @@ use Rattle.text.proofs.pairs.read_pairs.Statement.{statement}
 use Rattle.text.proofs.pairs.read_pairs.Tie as tie
 
 abbrev Inv-bytes : tie.InvT-bytes
-Inv-bytes line from first values came at₀ end i n₀ at n =
+Inv-bytes line from first values came at₀ i n₀ at n =
     (at ≤ length line) × (at₀ ≤ at) × Good n × (folded Start (rest line at₀) ≡ folded n (rest line at)) ×
     (at₀ + run (drop at₀ line) ≡ at + run (drop at line))
 
 abbrev μ-bytes : tie.MeasureT-bytes
-μ-bytes line from first values came at₀ end i n₀ at n = length line - at
+μ-bytes line from first values came at₀ i n₀ at n = length line - at
 
 abbrev Inv-pairs : tie.InvT-pairs
 Inv-pairs line from first values₀ came₀ at₀ values came at =
