@@ -10,7 +10,7 @@ use super::values::quarter_turns;
 use super::words::Word;
 use super::words::is_word;
 use super::words::next_word;
-use super::words::past_spaces;
+use super::words::past;
 use model::Kind;
 use model::Turns;
 use model::Vec3;
@@ -168,7 +168,7 @@ pub fn read_pairs(line: &[u8], from: usize, kind: Kind) -> Pairs
         if !may_take(first, i, came) {
             break;
         }
-        at = past_spaces(line, a.end);
+        at = past(line, a.end, true);
         let mut n = Num::Start;
         'bytes: while at < line.len() {
             let b = line[at];
