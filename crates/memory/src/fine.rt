@@ -15,33 +15,22 @@ use model::State;
 use model::System;
 use model::Turns;
 use model::Vec3;
+use text::values::offset_fine;
 ghost use mathlib.Core.Path.{_≡_};
 ghost use mathlib.Core.Bool.{_&&_, _||_};
 ghost use lib.Dec.{eqb, leb};
+ghost use mathlib.Core.List.{List};
 ghost use Rattle.model.specs.Lists.{between};
 ghost use Rattle.model.specs.Limits.{largestNumber};
-ghost use mathlib.Core.List.{List};
 ghost use Rattle.model.specs.Memory.{System as SystemOf};
 ghost use Rattle.model.specs.Chain.{noRing};
-ghost use Rattle.model.specs.Words.{offset?};
 ghost use Rattle.model.specs.WellFormed.{offsetsFine, noOffset, turnsFine, operatingFine, enabledFine, memoryFine, wellFormed};
 ghost use Rattle.model.specs.Stored.{systemOf, systemsOf, memoryOf, stateOf, memoryShaped, shaped};
 ghost use Rattle.memory.specs.Codes.{codesOf};
 ghost use Rattle.memory.specs.Fine.{aloneFine, storedFine, storedAllFine};
 
-// The limit of an own offset, either way.
-const LEAST: i64 = -1000000000;
-
-const MOST: i64 = 1000000000;
-
 // The largest number with which a line can be refused.
 const LARGEST: u8 = 13;
-
-fn offset_fine(z: i64) -> bool
-    ensures { λ r. ⌜ r ≡ offset? z ⌝ }
-{
-    (LEAST <= z) & (z <= MOST)
-}
 
 fn offsets_fine(t: Vec3) -> bool
     ensures { λ r. ⌜ r ≡ offsetsFine t ⌝ }
