@@ -5,5 +5,6 @@ pub mod NumberLaws
 pub mod NumberRange
 pub mod PairLaws
 pub mod PairWords
+pub mod Printed
 pub mod ValueLaws
 pub mod WordLaws

@@ -12,10 +12,10 @@ use lib.ListN.{length, getD, set, replicate}
 use lib.Seq.{getD-set-same, getD-set-other}
 use Rattle.model.specs.Lists.{same, least, there?}
 use Rattle.model.specs.declared.Kind.{Kind}
-use Rattle.model.specs.Request.{Values, axis, axisWords, firstAxis, mayCome, pairs, given, inRange}
-use Rattle.model.specs.Words.{number, offset?, angle?}
+use Rattle.model.specs.Request.{Reading, malformed, beyond, define, asksChange, definition, Values, noValues, axis, axisWords, firstAxis, mayCome, pairs, given, inRange, offsetsOf, turnsOf}
+use Rattle.model.specs.Words.{legalName, number, offset?, angle?}
 use Rattle.model.proofs.Basics.{true-false, and-split, either, least-now, least-later}
-use Rattle.text.specs.Pairs.{six, ranged, valuesOf, mayTake}
+use Rattle.text.specs.Pairs.{refusedPairs, six, ranged, answered, pairsRead, readingOf, valuesOf, mayTake}
 
 -- ---- the place of a text in a list of texts
 
@@ -155,3 +155,36 @@ module _ (k : Kind) (a : List ℕ) (vs : Values) where
   pub pairs-axis : (ws : List (List ℕ)) → mayCome k (axis a) vs ≡ false → pairs k (a ∷ ws) vs ≡ none
   pairs-axis [] e = pairs-short
   pairs-axis (n ∷ rest) e = pairs-off n rest e
+
+-- ---- for a caller of `read_pairs`
+
+-- a definition by its two tests
+defined : Kind → List ℕ → Bool → Option Values → Reading
+defined k n t o =
+    elim t [
+      | false ↦ malformed
+      | true ↦ elim o [ none ↦ malformed | some vs ↦ cond (inRange vs) (asksChange (define k n (offsetsOf vs) (turnsOf vs))) beyond ]
+    ]
+
+defined-turn : (k : Kind) (n : List ℕ) (ws : List (List ℕ)) → definition k (n ∷ ws) ≡ defined k n (legalName n) (pairs k ws noValues)
+unfolding definition defined
+defined-turn k n ws = refl
+
+defined-is : (k : Kind) (n : List ℕ) (o : Option Values) → defined k n true o ≡ readingOf k n (answered o)
+unfolding defined answered ranged
+defined-is k n none = refl
+defined-is k n (some vs) = pick (inRange vs)
+  where
+    pick : (t : Bool) →
+        cond t (asksChange (define k n (offsetsOf vs) (turnsOf vs))) beyond ≡
+        readingOf k n (cond t (record { malformed = false; beyond = false; offset = offsetsOf vs; turns = turnsOf vs }) (refusedPairs false true))
+    pick true = refl
+    pick false = refl
+
+-- the answer on the pairs decides what a definition with a legal name asks
+pub definition-read : (k : Kind) (n : List ℕ) (ws : List (List ℕ)) → legalName n ≡ true → definition k (n ∷ ws) ≡ readingOf k n (pairsRead k ws)
+definition-read k n ws e = defined-turn k n ws ∙ ap (λ (t : Bool). defined k n t (pairs k ws noValues)) e ∙ defined-is k n (pairs k ws noValues)
+
+pub definition-unnamed : (k : Kind) (n : List ℕ) (ws : List (List ℕ)) → legalName n ≡ false → definition k (n ∷ ws) ≡ malformed
+unfolding defined
+definition-unnamed k n ws e = defined-turn k n ws ∙ ap (λ (t : Bool). defined k n t (pairs k ws noValues)) e

@@ -7,17 +7,17 @@ use lib.IntN.{ℤ, pos}
 use lib.ListN.{getD}
 use Rattle.model.specs.declared.Kind.{Kind}
 use Rattle.model.specs.Lists.{between}
-use Rattle.model.specs.Request.{Values, noValues, pairs, inRange, offsetsOf, turnsOf}
+use Rattle.model.specs.Request.{Reading, malformed, beyond, define, asksChange, Values, noValues, pairs, inRange, offsetsOf, turnsOf}
 use Rattle.text.specs.declared.pairs.Pairs.{Pairs}
 
 -- ---- the answer
 
 -- number 5 or 6; the values are of no account
 abbrev pub refusedPairs : Bool → Bool → Pairs
-refusedPairs malformed beyond =
+refusedPairs five six =
     record {
-      malformed = malformed;
-      beyond = beyond;
+      malformed = five;
+      beyond = six;
       offset = record { x = pos 0; y = pos 0; z = pos 0 };
       turns = record { u = 0; v = 0; w = 0 };
     }
@@ -33,6 +33,10 @@ answered (some vs) = ranged vs
 -- the words of the pairs
 abbrev pub pairsRead : Kind → List (List ℕ) → Pairs
 pairsRead k ws = answered (pairs k ws noValues)
+
+-- what a definition with a legal name asks, by the answer on its pairs
+abbrev pub readingOf : Kind → List ℕ → Pairs → Reading
+readingOf k n p = cond (p .malformed) malformed (cond (p .beyond) beyond (asksChange (define k n (p .offset) (p .turns))))
 
 -- ---- the values while they are read
 

@@ -10,7 +10,7 @@ use super::values::quarter_turns;
 use super::words::Word;
 use super::words::is_word;
 use super::words::next_word;
-use super::words::past_spaces;
+use super::words::past;
 use model::Kind;
 use model::Turns;
 use model::Vec3;
@@ -161,15 +161,14 @@ pub fn read_pairs(line: &[u8], from: usize, kind: Kind) -> Pairs
     let mut at = from;
     'pairs: loop {
         let a = next_word(line, at);
-        let end = a.end;
-        if a.start == end {
+        if a.start == a.end {
             return finished(values);
         }
         let i = axis_of(line, a);
         if !may_take(first, i, came) {
             break;
         }
-        at = past_spaces(line, end);
+        at = past(line, a.end, true);
         let mut n = Num::Start;
         'bytes: while at < line.len() {
             let b = line[at];

@@ -24,17 +24,17 @@ use Rattle.text.proofs.NumberBytes.{rest, fold-next, fold-end, fold-wro
 use Rattle.text.proofs.NumberRange.{good-stepped}
 use Rattle.text.proofs.PairLaws.{Clean, none-yet, clean-set, came-set, ranged-values, may-is}
 use Rattle.text.proofs.PairWords.{line-end, line-axis, line-number, line-on}
-use Rattle.text.proofs.WordLaws.{startFrom, word-within, word-on, blanks-le, run-next, run-stop, run-end}
+use Rattle.text.proofs.WordLaws.{startFrom, word-within, word-on, lead-le, lead-end, run-next, run-stop}
 use Rattle.text.proofs.pairs.read_pairs.Statement.{statement}
 use Rattle.text.proofs.pairs.read_pairs.Tie as tie
 
 abbrev Inv-bytes : tie.InvT-bytes
-Inv-bytes line from first values came at₀ end i n₀ at n =
+Inv-bytes line from first values came at₀ i n₀ at n =
     (at ≤ length line) × (at₀ ≤ at) × Good n × (folded Start (rest line at₀) ≡ folded n (rest line at)) ×
     (at₀ + run (drop at₀ line) ≡ at + run (drop at line))
 
 abbrev μ-bytes : tie.MeasureT-bytes
-μ-bytes line from first values came at₀ end i n₀ at n = length line - at
+μ-bytes line from first values came at₀ i n₀ at n = length line - at
 
 abbrev Inv-pairs : tie.InvT-pairs
 Inv-pairs line from first values₀ came₀ at₀ values came at =
@@ -116,8 +116,8 @@ small c =
     let h = leb-true i 5 (and-split (leb f i) (leb i 5) s .1) in
     omega arith
 
-past-spaces-requires : tie.Need-past-spaces-requires Inv-bytes μ-bytes Inv-pairs μ-pairs
-past-spaces-requires c κs = within (c .before .before .before .before .before) .inside
+past-requires : tie.Need-past-requires Inv-bytes μ-bytes Inv-pairs μ-pairs
+past-requires c κs = within (c .before .before .before .before .before) .inside
 
 bytes-holds : tie.Need-bytes-holds Inv-bytes μ-bytes Inv-pairs μ-pairs
 bytes-holds c =
@@ -125,7 +125,7 @@ bytes-holds c =
     let l = Line (a .before) in
     let e = a .next-word .result .end in
     let w = within a .inside in
-    (omega (arith, c .past-spaces .ensures, blanks-le (drop e l), length-drop e l), omega arith, tt, refl, refl)
+    (omega (arith, c .past .ensures, lead-le true (drop e l), length-drop e l), omega arith, tt, refl, refl)
 
 shared-slice-read-b : tie.Need-shared-slice-read-b Inv-bytes μ-bytes Inv-pairs μ-pairs
 shared-slice-read-b c = c .before .bytes-test .taken
@@ -163,12 +163,12 @@ stopped : (c : tie.Left-bytes Inv-bytes μ-bytes Inv-pairs μ-pairs) → run (dr
 stopped c =
     let l = Line (c .before .before .before .before .before .before .before .before .before) in
     let i = c .before .bytes .at in
-    ⊎-elim (λ w. run-end l i (w .left)) (λ w. run-stop l i (w .0 .taken) (w .2 .taken)) (c .bytes-test .came)
+    ⊎-elim (λ w. lead-end false l i (w .left)) (λ w. run-stop l i (w .0 .taken) (w .2 .taken)) (c .bytes-test .came)
 
 number-is : (c : tie.Left-bytes Inv-bytes μ-bytes Inv-pairs μ-pairs) → folded Start (rest (Line (c .before .before .before .before .before .before .before .before .before)) (startFrom (Line (c .before .before .before .before .before .before .before .before .before)) (c .before .before .before .before .before .before .before .before .next-word .result .end))) ≡ c .before .bytes .n
 number-is c =
     let l = Line (c .before .before .before .before .before .before .before .before .before) in
-    ap (λ (j : ℕ). folded Start (rest l j)) (sym (c .before .before .past-spaces .ensures)) ∙ c .before .bytes .inv .3 ∙
+    ap (λ (j : ℕ). folded Start (rest l j)) (sym (c .before .before .past .ensures)) ∙ c .before .bytes .inv .3 ∙
     fold-end l (c .before .bytes .at) (c .before .bytes .n) (stopped c)
 
 value-of-requires : tie.Need-value-of-requires Inv-bytes μ-bytes Inv-pairs μ-pairs
@@ -200,7 +200,7 @@ pairs-less c =
       word-on (Line p) (p .pairs .at) (w .next-word .result) (w .next-word .ensures),
       g .ordered,
       c .before .before .before .before .before .before .before .before .before .before .if1 .left,
-      b .before .past-spaces .ensures,
+      b .before .past .ensures,
       b .bytes .inv .0,
       b .bytes .inv .1,
     )
@@ -221,7 +221,7 @@ on c k q =
     let z = c .v .given .0 .0 in
     let s = startFrom (Line p) (w .next-word .result .end) in
     let e : s + run (drop s (Line p)) ≡ b .bytes .at =
-    ap (λ (j : ℕ). j + run (drop j (Line p))) (sym (b .before .past-spaces .ensures)) ∙ omega (arith, b .bytes .inv .4, stopped l)
+    ap (λ (j : ℕ). j + run (drop j (Line p))) (sym (b .before .past .ensures)) ∙ omega (arith, b .bytes .inv .4, stopped l)
     in
     line-on k (Line p) (p .pairs .at) (w .next-word .result) (w .next-word .ensures) (Read p) (c .before .before .before .before .before .before .before .before .before .if1 .left) z
     (ap valued (number-is l) ∙ value-is c) (may (c .before .before .before .before .before .before .before) k q ∙ taken (c .before .before .before .before .before .before)) ∙
@@ -239,7 +239,7 @@ pairs-again c =
     rw f (
       b .bytes .inv .0,
       length-set (p .pairs .values) i (v .v .given .0 .0) ∙ p .pairs .inv .1,
-      length-set (p .pairs .came) i true ∙ p .pairs .inv .2,
+      simp length-set (p .pairs .inv .2),
       clean-set (p .pairs .came) (p .pairs .values) i (v .v .given .0 .0) (omega (arith, small (v .before .before .before .before .before .before), p .pairs .inv .2)) (p .pairs .inv .3),
       (λ k q. p .pairs .inv .4 k q ∙ on v k q),
     )
@@ -260,12 +260,12 @@ axis-out c =
     (may (c .before) (KindOf p) (sym (p .before .first-axis .ensures)) ∙ not-true _ (c .if2 .taken))
 
 -- the number that begins where the spaces end
-number-out : (c : tie.After-past-spaces Inv-bytes μ-bytes Inv-pairs μ-pairs) → valued (folded Start (rest (Line (c .before .before .before .before .before .before .before)) (c .past-spaces .result))) ≡ none → Malformed (c .before .before .before .before .before .before .before)
+number-out : (c : tie.After-past Inv-bytes μ-bytes Inv-pairs μ-pairs) → valued (folded Start (rest (Line (c .before .before .before .before .before .before .before)) (c .past .result))) ≡ none → Malformed (c .before .before .before .before .before .before .before)
 number-out c v =
     let w = c .before .before .before .before .before .before in
     let p = w .before in
     line-number (KindOf p) (Line p) (p .pairs .at) (w .next-word .result) (w .next-word .ensures) (Read p) (c .before .before .before .before .if1 .left)
-    (ap (λ (j : ℕ). valued (folded Start (rest (Line p) j))) (sym (c .past-spaces .ensures)) ∙ v)
+    (ap (λ (j : ℕ). valued (folded Start (rest (Line p) j))) (sym (c .past .ensures)) ∙ v)
 
 byte-out : (c : tie.Then4 Inv-bytes μ-bytes Inv-pairs μ-pairs) → Malformed (c .before .before .before .before .before .before .before .before .before .before .before .before .before .before)
 byte-out c =
@@ -294,11 +294,11 @@ returns-2 c =
     ⊎-elim (λ w. axis-out (record { before = m; if2 = w .0 }))
     (⊎-elim
     (λ w.
-    let a : tie.At-bytes Inv-bytes μ-bytes Inv-pairs μ-pairs = record { before = record { before = record { before = m; if2 = w .0 }; past-spaces = w .1 }; bytes = w .2 } in
+    let a : tie.At-bytes Inv-bytes μ-bytes Inv-pairs μ-pairs = record { before = record { before = record { before = m; if2 = w .0 }; past = w .1 }; bytes = w .2 } in
     let r : tie.Else3 Inv-bytes μ-bytes Inv-pairs μ-pairs = record { before = record { before = record { before = a; bytes-test = w .3 }; shared-slice-known2 = w .4 }; if3 = w .5 } in
     byte-out (record { before = record { before = record { before = r; step = w .6 }; is-wrong = w .7 }; if4 = w .8 }))
     (λ w.
-    let a : tie.At-bytes Inv-bytes μ-bytes Inv-pairs μ-pairs = record { before = record { before = record { before = m; if2 = w .0 }; past-spaces = w .1 }; bytes = w .2 } in
+    let a : tie.At-bytes Inv-bytes μ-bytes Inv-pairs μ-pairs = record { before = record { before = record { before = m; if2 = w .0 }; past = w .1 }; bytes = w .2 } in
     value-out (record { before = record { before = record { before = record { before = a; bytes-test = w .3 }; value-of = w .4 }; match = w .5 }; enum-told = w .6 })))
     (c .before .if2 .came)
     in
@@ -319,7 +319,7 @@ read-pairs-spec =
     returns
     axis-of-requires
     may-take-requires
-    past-spaces-requires
+    past-requires
     bytes-holds
     shared-slice-read-b
     step-requires
