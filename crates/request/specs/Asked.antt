@@ -1,7 +1,7 @@
 -- What a request of the code stands for: a reading of document 01.
 use Prim.Native.Nat.{ℕ, _≤_}
 use mathlib.Core.Path.{_≡_}
-use mathlib.Core.List.{List, []}
+use mathlib.Core.List.{List}
 use lib.ListN.{replicate}
 use Rattle.model.specs.declared.Name.{Name}
 use Rattle.model.specs.declared.Vec3.{Vec3}

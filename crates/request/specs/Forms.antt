@@ -1,11 +1,9 @@
 -- How the arguments of a command are read, and the command words by groups.
 use Prim.Native.Nat.{ℕ}
 use mathlib.Core.List.{List, [], _∷_}
-use lib.Dec.{eqb}
-use lib.ListN.{length, drop}
+use lib.ListN.{length, take, drop}
 use Rattle.model.specs.Ascii.{ascii}
 use Rattle.model.specs.Kinds.{kinds}
-use Rattle.model.specs.Lists.{kept}
 use Rattle.model.specs.Request.{Reading, unknown, Command, commands, definition, oneName, twoNames, fixedWords, levelWords, resultantWords}
 use Rattle.request.specs.Asked.{named}
 use Rattle.request.specs.declared.commands.Form.{Form}
@@ -22,20 +20,17 @@ readAs (Alone q) args = fixedWords [] (named q [] []) args
 readAs Level args = levelWords args
 readAs Resultants args = resultantWords args
 
--- document 01's commands, by the length of their words: queries have four letters, all others three
-unfoldable pub ofLength : ℕ → List Command → List Command
-ofLength n cs = kept (λ c. eqb (length (c .first)) n) cs
-
-unfoldable pub queries : List Command
-queries = ofLength 4 commands
+-- ---- document 01's commands by groups. The words of three letters stand first, thirteen of them; the queries have four letters
 
 unfoldable pub definitions : List Command
-definitions = ofLength 3 commands
+definitions = take 13 commands
 
--- those behind the definitions: KLN, KCP, KRM, KEN and the settings
+-- behind the definitions: KLN, KCP, KRM, KEN, and then the settings
 unfoldable pub edits : List Command
 edits = drop (length kinds) definitions
 
--- those behind these four
 unfoldable pub settings : List Command
 settings = drop 4 edits
+
+unfoldable pub queries : List Command
+queries = drop 13 commands

@@ -1,4 +1,4 @@
-use mathlib.Core.Path.{_≡_, refl}
+use mathlib.Core.Path.{refl}
 use borrow.Author.Needs.{needs}
 use Rattle.model.specs.Request.{fixedWords}
 use Rattle.request.specs.declared.Asked.the-variants.{Unknown}

@@ -1,4 +1,3 @@
-use mathlib.Core.Path.{_≡_, sym}
 use borrow.Author.Needs.{needs}
 use Rattle.request.specs.declared.Asked.the-variants.{Malformed}
 use Rattle.request.proofs.Says.{says-plain}

@@ -1,4 +1,4 @@
-use mathlib.Core.Path.{_≡_, sym, _∙_}
+use mathlib.Core.Path.{sym, _∙_}
 use borrow.Author.Needs.{needs}
 use Rattle.request.specs.declared.Asked.the-variants.{ListResultants}
 use Rattle.request.proofs.Laws.{every-resultant, one-resultant}
