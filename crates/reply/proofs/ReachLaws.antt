@@ -1,13 +1,14 @@
 -- The walk over a memory laid flat reaches what the line of a place shows.
 use Prim.Native.Nat.{ℕ, zero, suc, _-_, _≤_, _<_}
 use mathlib.Core.Path.{_≡_, refl, sym, ap, subst, _∙_}
-use mathlib.Core.List.{List, []}
+use mathlib.Core.List.{List, [], _∷_}
 use native.Mathlib.Omega.{arith}
 use lib.IntN.{ℤ}
 use lib.ListN.{length, take, getD, length-take, length-map}
 use Rattle.model.specs.Kinds.{ofKind}
-use Rattle.model.specs.Memory.{System, systemAt, nameOf, fixedRef, userRef}
-use Rattle.model.specs.Reply.{resultantLine}
+use Rattle.model.specs.Memory.{System, Memory, Ref, named, systemAt, nameOf, fixedRef, userRef}
+use Rattle.model.specs.Request.{resultantOf}
+use Rattle.model.specs.Reply.{listing, resultantLine, listed}
 use Rattle.model.specs.Stored.{bytesOf, systemsOf, memoryOf}
 use Rattle.model.proofs.Open.{definitions-open}
 use Rattle.pose.specs.Poses.{Within, reach}
@@ -35,6 +36,11 @@ ref-fixed l g p e = rw e
 pub ref-user : (l : List System) (g : Group) (p : ℕ) → (p ≡ 0 → ⊥) → refAt l g p ≡ userRef l (suc (p - 1))
 ref-user l g zero h = absurd (h refl)
 ref-user l g (suc k) h = let e : suc k - 1 ≡ k = omega arith in rw e
+
+-- KLT? of a name, by the system that it names
+pub resultant-named : (m : Memory) (a : List ℕ) (r : Ref) → named m a ≡ r → listed m (resultantOf a) ≡ listing (resultantLine (m .systems) r ∷ [])
+unfolding listed
+resultant-named m a r e = rw e
 
 -- ---- a well-formed memory, and its numbers laid flat
 
