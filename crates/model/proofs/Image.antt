@@ -20,6 +20,7 @@ use Rattle.model.specs.WellFormed.{memoryFine}
 use Rattle.model.specs.ImageClaims.{ReadsBack, AcceptedExactly, OneMemory}
 use Rattle.model.specs.Image.{edition, sevens, whole, signedCode, numbers, systemBytes, partNumbers, enabledBytes, image, Reader, _>>=_, give, fail, readWhole, readBytes, signedOf, kindOf, readSystem, readSystems, readPart, readMemory, imageOf?, accepted}
 use Rattle.model.proofs.Basics.{and-split, and-join, same-refl, same→≡}
+use Rattle.model.proofs.Readers.{then, nothing, passed}
 use Rattle.model.proofs.ImageLimits.{parts}
 use Rattle.model.proofs.Wholes.{read-whole}
 
@@ -43,11 +44,6 @@ unfolding readBytes
 name-back l rest =
     let h : length l ≤ length (l ++ rest) = omega (arith, length-append l rest) in
     rw (le-leb (length l) (length (l ++ rest)) h, take-append-seam l rest, drop-append-seam l rest)
-
--- a reader that has read, and what is done with it
-pub then : {A B : Type 0} (r : Reader A) (f : A → Reader B) (bs : List ℕ) {a : A} {rest : List ℕ} → r bs ≡ some (a, rest) → _>>=_ r f bs ≡ f a rest
-unfolding _>>=_
-then r f bs e = rw (e, _>>=_)
 
 module _ {B : Type 0} where
   then-whole : (f : ℕ → Reader B) (n : ℕ) (rest : List ℕ) → _>>=_ readWhole f (whole n ++ rest) ≡ f n rest
@@ -108,14 +104,6 @@ unfolding imageOf?
 reads-back m h =
     let e : readMemory (image m) ≡ some (m, []) = rw append-nil at (read-memory m [] (parts m h .few)) in
     accept (image m) m [] e ∙ rw (h, same-refl (image m))
-
-pub nothing : {A C : Type 0} {y : A} → _≡_ {A = Option A} none (some y) → C
-nothing e = let q : _≡_ {A = ℕ} 0 1 = cc in absurd (omega arith)
-
--- a test that gave something was passed, and gave that
-pub passed : {A : Type 0} (t : Bool) (x y : A) → _≡_ {A = Option A} (cond t (some x) none) (some y) → (t ≡ true) × (x ≡ y)
-passed true x y e = (refl, cc)
-passed false x y e = nothing e
 
 -- what is accepted as m: m is well formed, and these are its bytes
 its-image : (bs : List ℕ) (n m : Memory) → imageOf? bs n ≡ some m → (memoryFine m ≡ true) × (image m ≡ bs)

@@ -1,0 +1,1 @@
+// The saved image, written and read.
