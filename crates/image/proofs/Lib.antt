@@ -1,1 +1,4 @@
 pub mod Shortest
+pub mod Several
+pub mod StrictSystem
+pub mod Exact

@@ -89,7 +89,7 @@ parts m e =
 
 -- ---- lengths
 
-code-within : (k : Kind) → ofKind k .code ≤ 5
+pub code-within : (k : Kind) → ofKind k .code ≤ 5
 code-within Ksd = omega arith
 code-within Kst = omega arith
 code-within Ksw = omega arith

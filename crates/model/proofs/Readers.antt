@@ -5,7 +5,7 @@ use mathlib.Core.List.{List}
 use mathlib.Core.Bool.{Bool, true, false, cond}
 use mathlib.Core.Option.{Option, none, some}
 use native.Mathlib.Omega.{arith}
-use Rattle.model.specs.Image.{Reader, _>>=_}
+use Rattle.model.specs.Image.{Reader, _>>=_, fail}
 
 -- ---- something and nothing
 
@@ -21,6 +21,12 @@ pub one-read : {A B : Type 0} {a b : A} {r s : B} → _≡_ {A = Option (A × B)
 one-read {A} {B} {a} {b} {r} {s} e =
     let q : _≡_ {A = A × B} (a, r) (b, s) = cc in
     (ap (λ (p : A × B). p .0) q, ap (λ (p : A × B). p .1) q)
+
+-- a reader behind a test
+pub chosen : {A : Type 0} (t : Bool) (r : Reader A) (bs : List ℕ) {p : A × List ℕ} → cond t r fail bs ≡ some p → (t ≡ true) × (r bs ≡ some p)
+unfolding fail
+chosen true r bs e = (refl, e)
+chosen false r bs e = nothing e
 
 -- ---- one reader after the other
 
