@@ -2,3 +2,4 @@ pub mod Shortest
 pub mod Several
 pub mod StrictSystem
 pub mod Exact
+pub mod NumberLaws

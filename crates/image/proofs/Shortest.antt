@@ -109,6 +109,20 @@ within-above most b (some p) =
     (λ t. rw t (too-much most (b - 128 + 128 * p .0) (p .1) (ltb b 256 && ltb 0 (p .0)) (omega (arith, leb-false (p .0) (most / 128) t, div-add-mod most 128, mod-lt most {m = 128} (omega arith)))))
     (either (leb (p .0) (most / 128)))
 
+-- below 128 there is no second group
+pub within-one : (most b : ℕ) (o : Option (ℕ × List ℕ)) → most < 128 → within most (above b o) ≡ none
+unfolding within above
+within-one most b none h = refl
+within-one most b (some p) h =
+    let t = ltb b 256 && ltb 0 (p .0) in
+    ⊎-elim (λ (e : t ≡ true). rw e (within-over most (b - 128 + 128 * p .0) (p .1) (omega (arith, ltb-true 0 (p .0) (and-split (ltb b 256) (ltb 0 (p .0)) e .1)))))
+    (λ (e : t ≡ false). rw e)
+    (either t)
+
+pub above-zero : (b : ℕ) (rest : List ℕ) → above b (some (0, rest)) ≡ none
+unfolding above
+above-zero b rest = ⊎-elim (λ (e : ltb b 256 ≡ true). rw e) (λ (e : ltb b 256 ≡ false). rw e) (either (ltb b 256))
+
 pub up-to-whole : (most n : ℕ) (rest : List ℕ) → n ≤ most → upTo most (whole n ++ rest) ≡ some (n, rest)
 up-to-whole most n rest h = rw (short-whole n rest) (within-some most n rest h)
 

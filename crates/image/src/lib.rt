@@ -1,1 +1,2 @@
 // The saved image, written and read.
+mod numbers;

@@ -1,0 +1,12 @@
+-- What the answers of the readers in src/ stand for: a value and the bytes after it, or nothing.
+use Rattle.model.specs.Base.{ℕ, List, Option, none, some, true, false, cond, ltb, drop}
+use Rattle.image.specs.declared.numbers.Number.{Number}
+use Rattle.image.specs.declared.numbers.Number.the-variants.{Read, Refused}
+
+-- a number and the bytes after it
+abbrev pub numberRead : List ℕ → Number → Option (ℕ × List ℕ)
+numberRead bs (Read n next) = some (n, drop next bs)
+numberRead bs Refused = none
+
+abbrev pub numberUpTo : ℕ → ℕ → ℕ → Number
+numberUpTo n next most = cond (ltb most n) Refused (Read n next)
