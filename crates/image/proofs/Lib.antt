@@ -3,3 +3,4 @@ pub mod Several
 pub mod StrictSystem
 pub mod Exact
 pub mod NumberLaws
+pub mod Puts

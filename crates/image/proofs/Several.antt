@@ -1,17 +1,19 @@
 -- Numbers one after the other, read strictly: those that were written, and no other bytes.
-use Prim.Native.Nat.{ℕ, zero, suc, _+_, _≤_, _<_}
+use Prim.Native.Nat.{ℕ, zero, suc, _+_, _-_, _≤_, _<_}
 use mathlib.Core.Path.{_≡_, refl, sym, ap, _∙_}
-use mathlib.Core.List.{List, [], _∷_, _++_, append-assoc}
+use mathlib.Core.List.{List, [], _∷_, _++_, append-assoc, append-nil}
 use mathlib.Core.Bool.{true, _&&_}
 use mathlib.Core.Option.{Option, none, some}
+use native.Mathlib.Numerals.{add-one}
 use native.Mathlib.Omega.{arith}
 use lib.Dec.{leb}
-use lib.ListN.{length, getD}
+use lib.ListN.{length, getD, take, set}
+use lib.Seq.{take-suc-set}
 use borrow.Author.Tests.{leb-true, le-leb}
 use Rattle.model.specs.Lists.{all, joined, table}
 use Rattle.model.specs.Image.{_>>=_, give, whole, numbers}
 use Rattle.model.proofs.Basics.{and-split}
-use Rattle.model.proofs.Readers.{then, gave, one-read}
+use Rattle.model.proofs.Readers.{then, then-none, gave, one-read}
 use Rattle.image.specs.Strict.{upTo, several}
 use Rattle.image.proofs.Shortest.{up-to-whole, whole-up-to}
 
@@ -43,6 +45,52 @@ module _ (most : ℕ) (rest : List ℕ) where
   unfolding all
   read-four {a} {b} {c} {d} p q r s =
       several-numbers most (a ∷ b ∷ c ∷ d ∷ []) rest (rw (le-leb a most p, le-leb b most q, le-leb c most r, le-leb d most s))
+
+-- ---- in turns: what was read so far stands before what is left to read
+
+abbrev pub prefixed : List ℕ → Option (List ℕ × List ℕ) → Option (List ℕ × List ℕ)
+prefixed l none = none
+prefixed l (some p) = some (l ++ p .0, p .1)
+
+prefixed-twice : (l k : List ℕ) (o : Option (List ℕ × List ℕ)) → prefixed l (prefixed k o) ≡ prefixed (l ++ k) o
+prefixed-twice l k none = refl
+prefixed-twice l k (some p) = ap (λ (j : List ℕ). some (j, p .1)) (sym (append-assoc l k (p .0)))
+
+first-read : (n most : ℕ) (bs : List ℕ) (x : ℕ) (rest : List ℕ) → upTo most bs ≡ some (x, rest) → several (suc n) most bs ≡ prefixed (x ∷ []) (several n most rest)
+unfolding several give
+first-read n most bs x rest e = then (upTo most) _ bs e ∙ cases (several n most rest) refl
+  where
+    cases : (o : Option (List ℕ × List ℕ)) → several n most rest ≡ o → _>>=_ (several n most) (λ l. give (x ∷ l)) rest ≡ prefixed (x ∷ []) (several n most rest)
+    cases none q = then-none (several n most) _ rest q ∙ rw q
+    cases (some p) q = then (several n most) _ rest q ∙ rw q
+
+pub turn-first : (count most : ℕ) (bs : List ℕ) → several count most bs ≡ prefixed [] (several (count - 0) most bs)
+turn-first count most bs = let n : count - 0 ≡ count = omega arith in rw n (cases (several count most bs))
+  where
+    cases : (o : Option (List ℕ × List ℕ)) → o ≡ prefixed [] o
+    cases none = refl
+    cases (some p) = refl
+
+module _ (count i most : ℕ) (mid : List ℕ) where
+  pub turn-read : (values : List ℕ) (x : ℕ) (rest : List ℕ) → i < count → i < length values → upTo most mid ≡ some (x, rest)
+      → prefixed (take i values) (several (count - i) most mid) ≡ prefixed (take (i + 1) (set values i x)) (several (count - (i + 1)) most rest)
+  turn-read values x rest h g e =
+      let n : count - i ≡ suc (count - (i + 1)) = omega arith in
+      rw (n, first-read (count - (i + 1)) most mid x rest e, prefixed-twice (take i values) (x ∷ []) (several (count - (i + 1)) most rest))
+      (rw (add-one, take-suc-set values i x g))
+
+  pub turn-refused : (l : List ℕ) → i < count → upTo most mid ≡ none → prefixed l (several (count - i) most mid) ≡ none
+  unfolding several
+  turn-refused l h e =
+      let n : count - i ≡ suc (count - (i + 1)) = omega arith in
+      rw n (ap (prefixed l) (then-none (upTo most) _ mid e))
+
+  pub turn-last : (values : List ℕ) → i ≤ count → count ≤ i → prefixed (take i values) (several (count - i) most mid) ≡ some (take count values, mid)
+  unfolding several give
+  turn-last values h g =
+      let n : count - i ≡ 0 = omega arith in
+      let e : i ≡ count = omega arith in
+      rw (n, e, append-nil (take count values))
 
 -- ---- read, so written
 

@@ -1,7 +1,8 @@
 -- What the answers of the readers in src/ stand for: a value and the bytes after it, or nothing.
-use Rattle.model.specs.Base.{ℕ, List, Option, none, some, true, false, cond, ltb, drop}
+use Rattle.model.specs.Base.{ℕ, List, Option, none, some, cond, ltb, take, drop}
 use Rattle.image.specs.declared.numbers.Number.{Number}
 use Rattle.image.specs.declared.numbers.Number.the-variants.{Read, Refused}
+use Rattle.image.specs.declared.numbers.Numbers.{Numbers}
 
 -- a number and the bytes after it
 abbrev pub numberRead : List ℕ → Number → Option (ℕ × List ℕ)
@@ -10,3 +11,7 @@ numberRead bs Refused = none
 
 abbrev pub numberUpTo : ℕ → ℕ → ℕ → Number
 numberUpTo n next most = cond (ltb most n) Refused (Read n next)
+
+-- so many numbers and the bytes after them
+abbrev pub numbersRead : List ℕ → ℕ → Numbers → Option (List ℕ × List ℕ)
+numbersRead bs count r = cond (r .ok) (some (take count (r .values), drop (r .next) bs)) none
