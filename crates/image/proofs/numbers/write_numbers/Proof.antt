@@ -47,7 +47,7 @@ write-number-requires : tie.Need-write-number-requires Inv-loop μ-loop
 write-number-requires c κs =
     let l = c .before .before in
     let s = l .before .before in
-    left-fits _ (numbers (drop (l .loop .i + 1) (take (s .args .count) (s .args .t3)))) (length (l .loop .out)) (next-left (c .before)) (omega (arith, l .loop .inv .1, s .pre .1))
+    left-fits (whole (getD (s .args .t3) (l .loop .i) 0)) (numbers (drop (l .loop .i + 1) (take (s .args .count) (s .args .t3)))) (length (l .loop .out)) (next-left (c .before)) (omega (arith, l .loop .inv .1, s .pre .1))
 
 add-i : tie.Need-add-i Inv-loop μ-loop
 add-i c = search needs
