@@ -22,5 +22,6 @@ pub mod ImageClaims
 pub mod Machine
 pub mod Trace
 pub mod Demand
+pub mod Claims
 pub mod Table
 pub mod Stored

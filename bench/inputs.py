@@ -1,0 +1,153 @@
+"""Inputs for the benchmark and the fuzz: lines by kind, and random lines by a seed."""
+import random
+
+NAMES = ["N%02d" % i for i in range(16)]
+AXES = "XYZUVW"
+
+
+def value(axis, r, wrong=0.0):
+    if r.random() < wrong:
+        return r.choice(["1000.000001", "-9999", "45", "360", "-1000.5"])
+    if axis in "XYZ":
+        return r.choice(["%d" % r.randint(-1000, 1000), "%d.%d" % (r.randint(-999, 999), r.randint(0, 999999)),
+                         "-0.5", "1000.000000"])
+    return r.choice(["0", "90", "180", "270", "-90", "-180", "-270", "90.000000"])
+
+
+def pairs(r, axes=AXES, wrong=0.0):
+    chosen = [a for a in axes if r.random() < 0.5]
+    r.shuffle(chosen)
+    return "".join(" %s %s" % (a, value(a, r, wrong)) for a in chosen)
+
+
+def chain_of_sixteen(r):
+    """Sixteen KSD in one chain, each with six values."""
+    yield from ("KSD %s%s" % (n, "".join(" %s %s" % (a, value(a, r)) for a in AXES)) for n in NAMES)
+    yield from ("KLN %s %s" % (NAMES[i], NAMES[i - 1]) for i in range(1, 16))
+
+
+def definitions(r, count):
+    yield from ("KSD %s%s" % (NAMES[i % 16], pairs(r)) for i in range(count))
+
+
+def links(r, count):
+    yield from ("KSD %s" % n for n in NAMES)
+    for i in range(count):
+        a = 1 + i % 15
+        yield "KLN %s %s" % (NAMES[a], NAMES[a - 1] if i // 15 % 2 == 0 else "ZERO")
+
+
+def copies(r, count):
+    yield from ("KSD %s%s" % (n, pairs(r)) for n in NAMES)
+    yield from ("KCP %s %s" % (NAMES[i % 16], NAMES[(i + 7) % 16]) for i in range(count))
+
+
+def removals(r, count):
+    """A removal needs something to remove: each is followed by its definition."""
+    yield from chain_of_sixteen(r)
+    for i in range(count // 2):
+        n = NAMES[r.randrange(16)]
+        yield "KRM " + n
+        yield "KSD " + n
+
+
+def enables(r, count):
+    kinds = ["KSD", "KSW", "KST"]
+    yield from ("%s %s" % (kinds[i % 3], n) for i, n in enumerate(NAMES))
+    yield from ("KEN %s" % r.choice(NAMES + ["ZERO"]) for i in range(count))
+
+
+def listing(word):
+    def lines(r, count):
+        yield from chain_of_sixteen(r)
+        yield from (word for i in range(count))
+    return lines
+
+
+def one_resultant(r, count):
+    yield from chain_of_sixteen(r)
+    yield from ("KLT? " + NAMES[i % 16] for i in range(count))
+
+
+def refusals(r, count):
+    yield from chain_of_sixteen(r)
+    yield "KEN " + NAMES[15]
+    bad = ["FOO", "KSD", "KSD A X 1001", "KRM NONE", "KSD ZERO", "KSB B", "KLN N03 PI_BASE", "KLN N03 ZERO", "KSD NEW17",
+           "KSD N03 X 5 Y", "KEN", "KLT? 9", "RPA SKS", "", "KCP N15 N00", "x" * 121]
+    yield from (bad[i % len(bad)] for i in range(count))
+
+
+KINDS = {
+    "definitions": (definitions, 400000), "links": (links, 400000), "copies": (copies, 400000), "removals": (removals, 400000),
+    "enables": (enables, 400000), "KEN?": (listing("KEN?"), 400000), "KLN?": (listing("KLN?"), 200000),
+    "KLS?": (listing("KLS?"), 60000), "KLT?": (listing("KLT?"), 60000), "KLT? name": (one_resultant, 200000),
+    "refusals": (refusals, 400000),
+}
+
+
+def word(r):
+    """A random word: mostly sensible, sometimes not."""
+    pick = r.random()
+    if pick < 0.35:
+        return r.choice(NAMES[:6] + ["a", "b", "ZERO", "PI_BASE", "pi_levelling", "HEXAPOD", "T1", "W1", "K1", "L1", "L2", "K2"])
+    if pick < 0.5:
+        return r.choice(AXES)
+    if pick < 0.7:
+        return value(r.choice(AXES), r)
+    if pick < 0.8:
+        return r.choice(["0", "1", "ADVANCED", "SKS", "sks", "00", "-0", ".5", "5.", "10000", "9999", "1000.000001", "360", "45", "0090",
+                         "1.2345678", "--1", "+5", "A" * 16, "A" * 17, "9A", "A-B", "_A", "A_9"])
+    return r.choice(["KSD", "KEN", "x", "?", "~", "KLT?"])
+
+
+COMMANDS = ["KSD", "KST", "KSW", "KSB", "KLD", "KLN", "KCP", "KRM", "KEN", "CCL", "WPA", "RPA", "DPA", "KEN?", "KLS?", "KLN?", "KLT?", "ERR?"]
+
+
+def random_line(r, names):
+    """A line of the machine: usually well formed, over a small set of names so that chains, use and rings come up."""
+    pick = r.random()
+    c = r.choice(COMMANDS)
+    if pick < 0.04:
+        return bytes(r.randrange(256) for _ in range(r.randrange(0, 130))).replace(b"\n", b" ")
+    if pick < 0.14:
+        text = " ".join([c] + [word(r) for _ in range(r.randrange(0, 6))])
+    elif c in ("KSD", "KST", "KSW", "KLD"):
+        text = c + " " + r.choice(names) + pairs(r, wrong=0.02)
+    elif c == "KSB":
+        text = "KSB " + r.choice(names) + pairs(r, "UVW")
+    elif c in ("KLN", "KCP"):
+        text = "%s %s %s" % (c, r.choice(names), r.choice(names + ["ZERO", "PI_BASE", "PI_LEVELLING", "HEXAPOD"]))
+    elif c in ("KRM", "KEN"):
+        text = c + " " + r.choice(names + ["ZERO", "PI_BASE", "PI_LEVELLING"])
+    elif c == "CCL":
+        text = r.choice(["CCL 0", "CCL 1 ADVANCED", "CCL 1 ADVANCED", "CCL 1 ADVANCED"])
+    elif c in ("WPA", "RPA"):
+        text = c + " SKS"
+    elif c == "DPA":
+        text = "DPA SKS" if r.random() < 0.1 else "KEN ZERO"
+    elif c == "KLT?":
+        text = r.choice(["KLT?", "KLT? " + r.choice(names)])
+    else:
+        text = c
+    if r.random() < 0.1:
+        text = text.lower()
+    if r.random() < 0.1:
+        text = r.choice([" ", "  "]) + text.replace(" ", r.choice([" ", "   "])) + r.choice(["", " "])
+    if r.random() < 0.01:
+        text = text.ljust(r.choice([119, 120, 121, 122]))
+    return text.encode()
+
+
+def random_lines(seed, count):
+    r = random.Random(seed)
+    names = NAMES[:6] + ["A", "B", "W1", "W2", "T1", "T2", "K1", "K2", "K3", "L1", "L2", "L3", "Q" * 16]
+    for _ in range(count):
+        yield random_line(r, names)
+
+
+def lines_of(kind):
+    """The bytes of a kind's input."""
+    if kind == "mix":
+        return b"\n".join(random_lines(7, 300000)) + b"\n"
+    make, count = KINDS[kind]
+    return "\n".join(make(random.Random(1), count)).encode() + b"\n"

@@ -1,0 +1,58 @@
+-- The parts in which the code judges a memory make up the definition.
+use Prim.Native.Nat.{ℕ, _+_, _<_, _≤_}
+use mathlib.Core.Path.{_≡_, refl, sym, ap, _∙_}
+use mathlib.Core.List.{List, [], _∷_, map}
+use mathlib.Core.Bool.{Bool, true, false, _&&_}
+use native.Mathlib.Omega.{arith}
+use borrow.Author.Tests.{le-leb, lt-leb}
+use lib.Dec.{leb}
+use lib.ListN.{length, take, length-map, length-take}
+use Rattle.model.specs.declared.System.{System as StoredSystem}
+use Rattle.model.specs.declared.Memory.{Memory as StoredMemory}
+use Rattle.model.specs.Lists.{all}
+use Rattle.model.specs.Memory.{System}
+use Rattle.model.specs.Chain.{noRing}
+use Rattle.model.specs.WellFormed.{isKind, systemFine, namesDiffer, enabledFine, memoryFine}
+use Rattle.model.specs.Stored.{systemOf, systemsOf, memoryOf, nameShaped, memoryShaped}
+use Rattle.memory.proofs.Tests.{and-true, and-false}
+use Rattle.memory.specs.Fine.{aloneFine, storedFine, storedAllFine}
+
+pub alone-and-link : (l : List System) (s : System) → systemFine l s ≡ aloneFine s && isKind l (s .kind) (s .pred)
+unfolding systemFine aloneFine
+alone-and-link l s = refl
+
+and-swap : (a b c d : Bool) → (a && b) && (c && d) ≡ (a && c) && (b && d)
+and-swap true true c d = refl
+and-swap true false true d = refl
+and-swap true false false d = refl
+and-swap false b c d = refl
+
+-- two tests, one of them of what an element stands for, in one pass
+all-both : {A B : Type 0} (p : A → Bool) (q : B → Bool) (f : A → B) (l : List A) → all p l && all q (map f l) ≡ all (λ (x : A). p x && q (f x)) l
+unfolding all
+all-both p q f [] = refl
+all-both p q f (x ∷ l) = rw (and-swap (p x) (all p l) (q (f x)) (all q (map f l)), all-both p q f l)
+
+regroup : (s f n r e : Bool) → s && (((f && n) && r) && e) ≡ ((s && f) && e) && (n && r)
+regroup true true true true e = sym (and-true e)
+regroup true true true false e = sym (and-false e)
+regroup true true false r e = sym (and-false e)
+regroup true false n r e = refl
+regroup false f n r e = refl
+
+module _ (m : StoredMemory) where
+  pub stored-all : all nameShaped (take (m .count) (m .systems)) && all (systemFine (systemsOf m)) (systemsOf m) ≡ storedAllFine m
+  unfolding storedAllFine storedFine
+  stored-all = all-both nameShaped (systemFine (systemsOf m)) systemOf (take (m .count) (m .systems))
+
+  pub judged-long : 16 < m .count → memoryShaped m && memoryFine (memoryOf m) ≡ false
+  unfolding memoryShaped
+  judged-long h = rw (lt-leb (m .count) 16 h)
+
+  pub judged : m .count ≤ 16 → memoryShaped m && memoryFine (memoryOf m)
+      ≡ (storedAllFine m && enabledFine (systemsOf m) (m .enabled)) && (namesDiffer (systemsOf m) && noRing (systemsOf m))
+  unfolding memoryShaped memoryFine
+  judged h =
+      let few : length (systemsOf m) ≤ 16 = simp (length-map, length-take) (omega arith) in
+      rw (le-leb (m .count) 16 h, le-leb (length (systemsOf m)) 16 few, ← stored-all)
+      (regroup (all nameShaped (take (m .count) (m .systems))) (all (systemFine (systemsOf m)) (systemsOf m)) _ _ _)

@@ -1,0 +1,15 @@
+use borrow.Author.Needs.{needs}
+use Rattle.pose.proofs.Pose.of.Statement.{statement}
+use Rattle.pose.proofs.Pose.of.Tie as tie
+use Rattle.pose.proofs.Pose.of.Reads as reads
+use Rattle.pose.proofs.Pose.of.Lts as lts
+use Rattle.pose.proofs.rotation.named.Reads as named-reads
+
+named-requires : tie.Need-named-requires
+named-requires c κs = search needs
+
+returns : tie.Need-returns
+returns c = cc
+
+pub of-spec : {M : Type 1} → statement M
+of-spec = tie.close (tie.spec named-requires returns)
