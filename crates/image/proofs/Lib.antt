@@ -4,3 +4,4 @@ pub mod StrictSystem
 pub mod Exact
 pub mod NumberLaws
 pub mod Puts
+pub mod Signs

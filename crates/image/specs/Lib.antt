@@ -1,3 +1,4 @@
 pub mod Strict
+pub mod Codes
 pub mod Views
 pub mod Put

@@ -1,2 +1,3 @@
 // The saved image, written and read.
+mod codes;
 mod numbers;
