@@ -34,6 +34,9 @@ sets-append [] ys b at = ap (λ (i : ℕ). sets b i ys) (sym (add-zero at))
 sets-append (x ∷ xs) ys b at =
     sets-append xs ys (set b at x) (suc at) ∙ ap (λ (i : ℕ). sets (sets (set b at x) (suc at) xs) i ys) (omega arith)
 
+pub put-byte : (b : List ℕ) (at x : ℕ) → Put (x ∷ []) at b (set b at x) (at + 1)
+put-byte b at x = record { place = refl; bytes = refl }
+
 pub put-long : {t b a : List ℕ} {at next : ℕ} → Put t at b a next → length a ≡ length b
 put-long {t} {b} {a} {at} p = rw (p .bytes) (length-sets b at t)
 
@@ -48,6 +51,9 @@ pub left-all : (t : List ℕ) (at : ℕ) (b : List ℕ) → Left t at b t at b
 left-all t at b = record { place = refl; bytes = refl }
 
 module _ {t b a : List ℕ} {at i : ℕ} where
+  pub left-at : {rest : List ℕ} {j : ℕ} → i ≡ j → Left t at b rest i a → Left t at b rest j a
+  left-at e l = rw e at l
+
   pub left-done : Left t at b [] i a → Put t at b a i
   left-done l = record { place = omega (arith, l .place); bytes = sym (l .bytes) }
 
@@ -64,15 +70,23 @@ module _ {t b a : List ℕ} {at i : ℕ} where
 pub put-written : (t b a : List ℕ) (next : ℕ) → length t ≤ length b → Put t 0 b a next → (a ≡ written t b) × (next ≡ length t)
 put-written t b a next h p = (p .bytes ∙ sets-eq t b 0 (omega arith) ∙ rw zero-add, omega (arith, p .place))
 
--- ---- numbers one after the other
+-- ---- bytes, and numbers, one after the other
 
 module _ (values : List ℕ) (count i : ℕ) where
-  pub numbers-turn : i < count → count ≤ length values → numbers (drop i (take count values)) ≡ whole (getD values i 0) ++ numbers (drop (i + 1) (take count values))
-  unfolding numbers joined
-  numbers-turn h g =
+  pub bytes-turn : i < count → count ≤ length values → drop i (take count values) ≡ (getD values i 0 ∷ []) ++ drop (i + 1) (take count values)
+  bytes-turn h g =
       let l : i < length (take count values) = rw (length-take-le count values g) h in
       rw (drop-cons (take count values) i 0 l, getD-take count values i 0 h, add-one)
 
+  pub bytes-end : count ≤ i → count ≤ length values → drop i (take count values) ≡ []
+  bytes-end h g =
+      let l : length (take count values) ≤ i = rw (length-take-le count values g) h in
+      drop-of-length-le (take count values) l
+
+  pub numbers-turn : i < count → count ≤ length values → numbers (drop i (take count values)) ≡ whole (getD values i 0) ++ numbers (drop (i + 1) (take count values))
+  unfolding numbers joined
+  numbers-turn h g = rw (bytes-turn h g)
+
   pub numbers-end : count ≤ i → count ≤ length values → numbers (drop i (take count values)) ≡ []
   unfolding numbers joined
-  numbers-end h g = let l : length (take count values) ≤ i = rw (length-take-le count values g) h in rw (drop-of-length-le (take count values) l)
+  numbers-end h g = rw (bytes-end h g)

@@ -2,7 +2,9 @@
 use Rattle.model.specs.Base.{ℕ, List, Option, none, some, cond, ltb, take, drop}
 use Rattle.image.specs.declared.numbers.Number.{Number}
 use Rattle.image.specs.declared.numbers.Number.the-variants.{Read, Refused}
+use Rattle.model.specs.Stored.{bytesOf}
 use Rattle.image.specs.declared.numbers.Numbers.{Numbers}
+use Rattle.image.specs.declared.names.NameRead.{NameRead}
 
 -- a number and the bytes after it
 abbrev pub numberRead : List ℕ → Number → Option (ℕ × List ℕ)
@@ -15,3 +17,7 @@ numberUpTo n next most = cond (ltb most n) Refused (Read n next)
 -- so many numbers and the bytes after them
 abbrev pub numbersRead : List ℕ → ℕ → Numbers → Option (List ℕ × List ℕ)
 numbersRead bs count r = cond (r .ok) (some (take count (r .values), drop (r .next) bs)) none
+
+-- a name and the bytes after it
+abbrev pub nameRead : List ℕ → NameRead → Option (List ℕ × List ℕ)
+nameRead bs r = cond (r .ok) (some (bytesOf (r .name), drop (r .next) bs)) none

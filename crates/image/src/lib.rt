@@ -1,3 +1,4 @@
 // The saved image, written and read.
 mod codes;
+mod names;
 mod numbers;
