@@ -2,18 +2,21 @@
 use Prim.Native.Nat.{ℕ, _+_, _<_, _≤_}
 use mathlib.Core.Path.{_≡_, refl, sym, ap, _∙_}
 use mathlib.Core.List.{List, [], _∷_, map}
-use mathlib.Core.Bool.{Bool, true, false, _&&_}
+use mathlib.Core.Bool.{Bool, true, false, _&&_, _||_}
 use native.Mathlib.Omega.{arith}
 use borrow.Author.Tests.{le-leb, lt-leb}
-use lib.Dec.{leb}
+use lib.Dec.{leb, eqb}
 use lib.ListN.{length, take, length-map, length-take}
 use Rattle.model.specs.declared.System.{System as StoredSystem}
 use Rattle.model.specs.declared.Memory.{Memory as StoredMemory}
-use Rattle.model.specs.Lists.{all}
+use Rattle.model.specs.declared.State.{State as StoredState}
+use Rattle.model.specs.Lists.{all, between}
+use Rattle.model.specs.Limits.{largestNumber}
 use Rattle.model.specs.Memory.{System}
 use Rattle.model.specs.Chain.{noRing}
-use Rattle.model.specs.WellFormed.{isKind, systemFine, namesDiffer, enabledFine, memoryFine}
-use Rattle.model.specs.Stored.{systemOf, systemsOf, memoryOf, nameShaped, memoryShaped}
+use Rattle.model.specs.WellFormed.{isKind, systemFine, namesDiffer, enabledFine, memoryFine, wellFormed}
+use Rattle.model.specs.Stored.{systemOf, systemsOf, memoryOf, stateOf, nameShaped, memoryShaped, shaped}
+use Rattle.model.proofs.Basics.{and-assoc}
 use Rattle.memory.proofs.Tests.{and-true, and-false}
 use Rattle.memory.specs.Fine.{aloneFine, storedFine, storedAllFine}
 
@@ -56,3 +59,17 @@ module _ (m : StoredMemory) where
       let few : length (systemsOf m) ≤ 16 = simp (length-map, length-take) (omega arith) in
       rw (le-leb (m .count) 16 h, le-leb (length (systemsOf m)) 16 few, ← stored-all)
       (regroup (all nameShaped (take (m .count) (m .systems))) (all (systemFine (systemsOf m)) (systemsOf m)) _ _ _)
+
+rotate : (s f v : Bool) → s && (f && v) ≡ v && (s && f)
+rotate true true v = sym (and-true v)
+rotate true false v = sym (and-false v)
+rotate false f v = sym (and-false v)
+
+-- a stored state: its level and last error, and each memory
+pub state-judged : (s : StoredState) → shaped s && wellFormed (stateOf s)
+    ≡ (leb (s .level) 1 && (eqb (s .error) 0 || between 2 largestNumber (s .error)))
+    && ((memoryShaped (s .volatile) && memoryFine (memoryOf (s .volatile))) && (memoryShaped (s .permanent) && memoryFine (memoryOf (s .permanent))))
+unfolding shaped wellFormed
+state-judged s =
+    rw (and-assoc (memoryFine (memoryOf (s .volatile)) && memoryFine (memoryOf (s .permanent))) (leb (s .level) 1) (eqb (s .error) 0 || between 2 largestNumber (s .error)), and-swap (memoryShaped (s .volatile)) (memoryFine (memoryOf (s .volatile))) (memoryShaped (s .permanent)) (memoryFine (memoryOf (s .permanent))))
+    (rotate (memoryShaped (s .volatile) && memoryShaped (s .permanent)) (memoryFine (memoryOf (s .volatile)) && memoryFine (memoryOf (s .permanent))) _)

@@ -1,5 +1,5 @@
--- A system put at a place that is known, as `put` does it once the name has been looked up.
-use Rattle.model.specs.Base.{ℕ, _-_, List, [], _∷_, _++_, cond, ltb, set}
+-- Edits at a place that is known, once the name has been looked up.
+use Rattle.model.specs.Base.{ℕ, _+_, _-_, List, [], _∷_, _++_, cond, ltb, set}
 use Rattle.model.specs.declared.Enabled.{Enabled}
 use Rattle.model.specs.Memory.{System, Memory}
 use Rattle.model.specs.Effects.{withSystems}
@@ -11,3 +11,7 @@ putAt m place s = cond (ltb 0 place) (withSystems m (set (m .systems) (place - 1
 -- the memory of these systems, where this is enabled
 abbrev pub holding : List System → Enabled → Memory
 holding l e = record { systems = l; enabled = e }
+
+-- the index of the system that comes to index i once the one at the hole is gone
+abbrev pub keptAt : ℕ → ℕ → ℕ
+keptAt hole i = cond (ltb i hole) i (i + 1)

@@ -1,7 +1,7 @@
 // Edits of a memory by places: a system put, linked, removed. A search by name gives the places.
 use crate::find::system_at;
 use crate::kinds::group_of;
-use crate::names::clipped;
+use chains::links::held;
 use model::Enabled;
 use model::Group;
 use model::Kind;
@@ -20,7 +20,7 @@ ghost use Rattle.model.specs.Limits.{maxSystems};
 ghost use Rattle.model.specs.Memory.{System as SystemOf, systemAt};
 ghost use Rattle.model.specs.Effects.{withPred, withName, firstPred, fresh, movedUp, mended, mendedSystem, mendedPart, mendedEnabled, removedAt};
 ghost use Rattle.model.specs.Stored.{bytesOf, systemOf, systemsOf, memoryOf, nameShaped, memoryShaped};
-ghost use Rattle.memory.specs.Put.{putAt, holding};
+ghost use Rattle.memory.specs.Put.{putAt, holding, keptAt};
 
 // The memory with a system put at its place; place 0 is a new one's, which goes last.
 pub fn put_at(m: Memory, place: u8, s: System) -> Memory
@@ -141,4 +141,40 @@ fn mended_enabled(a: u8, p: u8, e: Enabled) -> Enabled
         orientational,
         levelling,
     }
+}
+
+// The memory without the system at a place: each successor gets its predecessor, and all behind move up.
+pub fn removed_at(m: Memory, place: u8) -> Memory
+    requires { ⌜ (0 < place) × (place ≤ length (systemsOf m)) ⌝ }
+    ensures { λ r. ⌜ memoryOf r ≡ removedAt (memoryOf m) place ⌝ }
+    ensures { λ r. ⌜ (memoryShaped m ≡ true → memoryShaped r ≡ true) ⌝ }
+{
+    let gone = system_at(m, place);
+    let p = gone.pred;
+    let last = held(m.count) - 1;
+    let hole = place as usize - 1;
+    let mut r = m;
+    let mut i = 0;
+    while i < last {
+        let at = kept_at(hole, i);
+        let s = m.systems[at];
+        r.systems[i] = mended_system(place, p, s);
+        i += 1;
+    }
+    let e = m.enabled;
+    let enabled = mended_enabled(place, p, e);
+    r.count = last as u8;
+    r.enabled = enabled;
+    r
+}
+
+// The index at which the system stands that comes to index i once the one at the hole is gone.
+fn kept_at(hole: usize, i: usize) -> usize
+    requires { ⌜ i < maxSystems ⌝ }
+    ensures { λ r. ⌜ r ≡ keptAt hole i ⌝ }
+{
+    if i < hole {
+        return i;
+    }
+    i + 1
 }

@@ -3,6 +3,7 @@ use crate::factory::blank_system;
 use crate::names::clipped;
 use crate::names::same_bytes;
 use crate::names::same_name;
+use chains::links::held;
 use model::Group;
 use model::Memory;
 use model::Name;
@@ -26,7 +27,7 @@ pub enum Found {
 pub fn place_named(m: Memory, n: Name) -> u8
     ensures { λ r. ⌜ r ≡ placeNamed (systemsOf m) (bytesOf n) ⌝ }
 {
-    let count = clipped(m.count);
+    let count = held(m.count);
     let mut i = 0;
     while i < count {
         let s = m.systems[i];
@@ -78,7 +79,7 @@ pub fn system_at(m: Memory, place: u8) -> System
     if place == 0 {
         return blank_system();
     }
-    let count = clipped(m.count);
+    let count = held(m.count);
     let at = place as usize - 1;
     if count <= at {
         return blank_system();

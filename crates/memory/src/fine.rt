@@ -2,23 +2,30 @@
 use crate::kinds::is_kind;
 use crate::kinds::kind_codes;
 use crate::kinds::turns_only;
-use crate::names::clipped;
 use crate::names::name_fine;
 use crate::names::same_name;
+use chains::links::held;
+use chains::links::links_of;
+use chains::links::no_ring;
 use model::Enabled;
 use model::Kind;
 use model::Memory;
 use model::OperatingPart;
+use model::State;
 use model::System;
 use model::Turns;
 use model::Vec3;
 ghost use mathlib.Core.Path.{_≡_};
-ghost use mathlib.Core.Bool.{_&&_};
+ghost use mathlib.Core.Bool.{_&&_, _||_};
+ghost use lib.Dec.{eqb, leb};
+ghost use Rattle.model.specs.Lists.{between};
+ghost use Rattle.model.specs.Limits.{largestNumber};
 ghost use mathlib.Core.List.{List};
 ghost use Rattle.model.specs.Memory.{System as SystemOf};
+ghost use Rattle.model.specs.Chain.{noRing};
 ghost use Rattle.model.specs.Words.{offset?};
-ghost use Rattle.model.specs.WellFormed.{offsetsFine, noOffset, turnsFine, namesDiffer, operatingFine, enabledFine};
-ghost use Rattle.model.specs.Stored.{systemOf, systemsOf};
+ghost use Rattle.model.specs.WellFormed.{offsetsFine, noOffset, turnsFine, namesDiffer, operatingFine, enabledFine, memoryFine, wellFormed};
+ghost use Rattle.model.specs.Stored.{systemOf, systemsOf, memoryOf, stateOf, memoryShaped, shaped};
 ghost use Rattle.memory.specs.Codes.{codesOf};
 ghost use Rattle.memory.specs.Fine.{aloneFine, storedFine, storedAllFine};
 
@@ -26,6 +33,9 @@ ghost use Rattle.memory.specs.Fine.{aloneFine, storedFine, storedAllFine
 const LEAST: i64 = -1000000000;
 
 const MOST: i64 = 1000000000;
+
+// The largest number with which a line can be refused.
+const LARGEST: u8 = 13;
 
 fn offset_fine(z: i64) -> bool
     ensures { λ r. ⌜ r ≡ offset? z ⌝ }
@@ -83,7 +93,7 @@ fn stored_fine(s: System, codes: &[u8]) -> bool
 fn systems_fine(m: Memory, codes: &[u8]) -> bool
     ensures { λ r. ⌜ (codesOf (systemsOf m) ≡ now (codes .entry) → r ≡ storedAllFine m) ⌝ }
 {
-    let count = clipped(m.count);
+    let count = held(m.count);
     let mut i = 0;
     while i < count {
         let s = m.systems[i];
@@ -119,7 +129,7 @@ fn enabled_fine(codes: &[u8], e: Enabled) -> bool
 fn typed_fine(m: Memory) -> bool
     ensures { λ r. ⌜ r ≡ storedAllFine m && enabledFine (systemsOf m) (m .enabled) ⌝ }
 {
-    let count = clipped(m.count);
+    let count = held(m.count);
     let all = kind_codes(m);
     let codes = &all[..count];
     if !systems_fine(m, codes) {
@@ -133,7 +143,7 @@ fn typed_fine(m: Memory) -> bool
 fn names_differ(m: Memory) -> bool
     ensures { λ r. ⌜ r ≡ namesDiffer (systemsOf m) ⌝ }
 {
-    let count = clipped(m.count);
+    let count = held(m.count);
     let mut i = 0;
     let mut j = 1;
     while i < count {
@@ -152,4 +162,54 @@ fn names_differ(m: Memory) -> bool
         }
     }
     true
+}
+
+// No chain is a ring.
+fn ring_free(m: Memory) -> bool
+    ensures { λ r. ⌜ r ≡ noRing (systemsOf m) ⌝ }
+{
+    let links = links_of(m);
+    let preds = links.preds;
+    let count = links.count;
+    no_ring(&preds[..count])
+}
+
+// A memory has shape and is well formed.
+pub fn memory_fine(m: Memory) -> bool
+    ensures { λ r. ⌜ r ≡ memoryShaped m && memoryFine (memoryOf m) ⌝ }
+{
+    if 16 < m.count {
+        return false;
+    }
+    if !typed_fine(m) {
+        return false;
+    }
+    if !names_differ(m) {
+        return false;
+    }
+    ring_free(m)
+}
+
+// A state has shape and is well formed.
+pub fn state_fine(s: State) -> bool
+    ensures { λ r. ⌜ r ≡ shaped s && wellFormed (stateOf s) ⌝ }
+{
+    let level = s.level;
+    let error = s.error;
+    if !values_fine(level, error) {
+        return false;
+    }
+    let v = s.volatile;
+    if !memory_fine(v) {
+        return false;
+    }
+    let p = s.permanent;
+    memory_fine(p)
+}
+
+// The level, and a last error that a line can leave.
+fn values_fine(level: u8, error: u8) -> bool
+    ensures { λ r. ⌜ r ≡ leb level 1 && (eqb error 0 || between 2 largestNumber error) ⌝ }
+{
+    (level <= 1) & ((error == 0) | ((2 <= error) & (error <= LARGEST)))
 }

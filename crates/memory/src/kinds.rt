@@ -1,5 +1,5 @@
 // Types of systems by their codes. The codes of a whole memory are laid flat once, so that a test of a place costs one read.
-use crate::names::clipped;
+use chains::links::held;
 use model::Group;
 use model::Kind;
 use model::Memory;
@@ -53,7 +53,7 @@ pub fn turns_only(k: Kind) -> bool
 pub fn kind_codes(m: Memory) -> [u8; 16]
     ensures { λ r. ⌜ take (min (m .count) 16) r ≡ codesOf (systemsOf m) ⌝ }
 {
-    let count = clipped(m.count);
+    let count = held(m.count);
     let mut codes = [0u8; 16];
     let mut i = 0;
     while i < count {

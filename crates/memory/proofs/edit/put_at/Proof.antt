@@ -5,7 +5,7 @@ use borrow.Author.Needs.{needs}
 use borrow.Author.Tests.{lt-ltb}
 use lib.ListN.{length}
 use Rattle.memory.specs.Put.{putAt}
-use Rattle.memory.proofs.Laws.{length-mapped}
+use Rattle.chains.proofs.Copies.{length-mapped}
 use Rattle.memory.proofs.Shape.{shaped-set, shaped-more}
 use Rattle.memory.proofs.Edits.{stored-set, stored-last}
 use Rattle.memory.proofs.edit.put_at.Statement.{statement}

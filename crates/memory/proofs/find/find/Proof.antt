@@ -2,10 +2,11 @@ use mathlib.Core.Path.{_≡_, refl, sym, _∙_}
 use native.Mathlib.Omega.{arith}
 use borrow.Author.Needs.{needs}
 use borrow.Author.Tests.{lt-ltb, le-ltb}
-use lib.ListN.{length, length-take}
+use lib.ListN.{length, take, length-take}
 use Rattle.model.specs.Memory.{isUser, find}
 use Rattle.memory.specs.Found.{foundRef, foundPlace}
-use Rattle.memory.proofs.Laws.{take-clipped}
+use Rattle.model.specs.Stored.{bytesOf}
+use Rattle.chains.proofs.Copies.{take-min}
 use Rattle.memory.proofs.find.find.Statement.{statement}
 use Rattle.memory.proofs.find.find.Tie as tie
 
@@ -38,7 +39,7 @@ unfolding find isUser
 returns-2 c =
     let s = c .before .before .before .before .before .before in
     let e = c .before .before .before .before .before .place-named .ensures in
-    let b = take-clipped (s .args .n .bytes) (s .args .n .len) _ (long s) (c .before .before .before .clipped .ensures) in
+    let b : take (c .before .before .before .clipped .result) (s .args .n .bytes) ≡ bytesOf (s .args .n) = rw (c .before .before .before .clipped .ensures) (take-min (s .args .n .len) 16 (s .args .n .bytes) (long s)) in
     let z : c .before .before .before .before .before .place-named .result ≡ 0 = omega arith in
     (rw (← e, le-ltb 0 _ (c .before .before .before .before .if1 .left)) (c .fixed-named .ensures .0 _ ∙ rw b), c .fixed-named .ensures .1 ∙ sym z ∙ e)
 

@@ -9,7 +9,8 @@ use lib.ListN.{length}
 use Rattle.model.specs.Memory.{System}
 use Rattle.model.specs.Lists.{same}
 use Rattle.model.specs.Stored.{bytesOf, systemsOf}
-use Rattle.memory.proofs.Laws.{length-mapped, length-systems, system-at}
+use Rattle.chains.proofs.Copies.{length-mapped}
+use Rattle.memory.proofs.Laws.{length-systems, system-at}
 use Rattle.memory.proofs.Places.{has, place-hit, place-none}
 use Rattle.memory.proofs.find.place_named.Statement.{statement}
 use Rattle.memory.proofs.find.place_named.Tie as tie
@@ -29,11 +30,11 @@ compared c =
     let l = c .before .before .before .before in
     let s = l .before .before in
     ap (λ (t : System). same (bytesOf (s .args .n)) (t .name))
-    (system-at (s .args .t1) _ (long s) (l .before .clipped .ensures) (l .loop .i) _ (c .before .before .before .loop-test .taken))
+    (system-at (s .args .t1) _ (long s) (l .before .held .ensures) (l .loop .i) (c .before .before .before .loop-test .taken))
     ∙ sym (c .same-name .ensures)
 
-clipped-requires : tie.Need-clipped-requires Inv-loop μ-loop
-clipped-requires c κs = search needs
+held-requires : tie.Need-held-requires Inv-loop μ-loop
+held-requires c κs = search needs
 
 loop-holds : tie.Need-loop-holds Inv-loop μ-loop
 loop-holds c = (search needs, λ j h. absurd (omega arith))
@@ -57,7 +58,7 @@ returns : tie.Need-returns Inv-loop μ-loop
 returns c =
     let l = c .before .before .before .before .before in
     let s = l .before .before in
-    let n = length-systems (s .args .t1) _ (long s) (l .before .clipped .ensures) in
+    let n = length-systems (s .args .t1) _ (long s) (l .before .held .ensures) in
     add-one _ ∙ sym (place-hit _ _ (l .loop .i) (omega arith) (compared (c .before) ∙ c .if1 .taken) (l .loop .inv .1))
 
 add-i : tie.Need-add-i Inv-loop μ-loop
@@ -75,7 +76,7 @@ returns-2 : tie.Need-returns-2 Inv-loop μ-loop
 returns-2 c =
     let l = c .before in
     let s = l .before .before in
-    let n = length-systems (s .args .t1) _ (long s) (l .before .clipped .ensures) in
+    let n = length-systems (s .args .t1) _ (long s) (l .before .held .ensures) in
     sym (place-none _ _ (λ j h. l .loop .inv .1 j (omega arith)))
 
 pub place-named-spec : {M : Type 1} → statement M
@@ -84,7 +85,7 @@ place-named-spec =
     (tie.spec
     Inv-loop
     μ-loop
-    clipped-requires
+    held-requires
     loop-holds
     mul-s
     element-copy-out-s

@@ -6,7 +6,8 @@ use lib.ListN.{length, getD}
 use Rattle.model.specs.Memory.{blank}
 use Rattle.model.specs.WellFormed.{namesDiffer}
 use Rattle.model.specs.Stored.{systemsOf}
-use Rattle.memory.proofs.Laws.{length-mapped, length-systems}
+use Rattle.chains.proofs.Copies.{length-mapped}
+use Rattle.memory.proofs.Laws.{length-systems}
 use Rattle.memory.proofs.Differ.{alike, left, left-from, left-hit, left-miss, left-next, left-end, stored-alike}
 use Rattle.memory.proofs.fine.names_differ.Statement.{statement}
 use Rattle.memory.proofs.fine.names_differ.Tie as tie
@@ -25,14 +26,14 @@ compared : (c : tie.After-same-name Inv-loop μ-loop) → alike (systemsOf (c .b
 compared c =
     let l = c .before .before .before .before .before .before .before in
     let s = c .before .before .before .before .before .before .before .before .before in
-    stored-alike (s .args .t1) _ (long s) (l .before .clipped .ensures) (l .loop .i) (l .loop .j) _ _ (c .before .before .before .before .before .before .loop-test .taken) (c .before .before .before .before .before .if1 .taken)
+    stored-alike (s .args .t1) _ (long s) (l .before .held .ensures) (l .loop .i) (l .loop .j) (c .before .before .before .before .before .before .loop-test .taken) (c .before .before .before .before .before .if1 .taken)
     ∙ sym (c .same-name .ensures)
 
-count : (c : tie.At-loop Inv-loop μ-loop) → length (systemsOf (c .before .before .args .t1)) ≡ c .before .clipped .result
-count c = length-systems (c .before .before .args .t1) _ (long (c .before .before)) (c .before .clipped .ensures)
+count : (c : tie.At-loop Inv-loop μ-loop) → length (systemsOf (c .before .before .args .t1)) ≡ c .before .held .result
+count c = length-systems (c .before .before .args .t1) _ (long (c .before .before)) (c .before .held .ensures)
 
-clipped-requires : tie.Need-clipped-requires Inv-loop μ-loop
-clipped-requires c κs = search needs
+held-requires : tie.Need-held-requires Inv-loop μ-loop
+held-requires c κs = search needs
 
 loop-holds : tie.Need-loop-holds Inv-loop μ-loop
 loop-holds c = (search needs, search needs, left-from _ 0)
@@ -97,7 +98,7 @@ names-differ-spec =
     (tie.spec
     Inv-loop
     μ-loop
-    clipped-requires
+    held-requires
     loop-holds
     mul-s
     element-copy-out-s

@@ -4,13 +4,13 @@ use mathlib.Core.Bool.{Bool}
 use native.Mathlib.Omega.{arith}
 use borrow.Author.Needs.{needs}
 use borrow.Author.Tests.{not-true, not-false}
-use lib.ListN.{length, take, drop}
+use lib.ListN.{length, take, drop, length-take}
 use lib.Seq.{getD-take}
 use Rattle.model.specs.Lists.{all}
 use Rattle.model.specs.Stored.{systemsOf}
 use Rattle.memory.specs.Codes.{codesOf}
 use Rattle.memory.specs.Fine.{storedFine, storedAllFine}
-use Rattle.memory.proofs.Laws.{length-mapped, length-clipped}
+use Rattle.chains.proofs.Copies.{length-mapped}
 use Rattle.memory.proofs.Tests.{all-next, all-stop, all-end}
 use Rattle.memory.proofs.fine.systems_fine.Statement.{statement}
 use Rattle.memory.proofs.fine.systems_fine.Tie as tie
@@ -24,11 +24,11 @@ abbrev μ-loop : tie.MeasureT-loop
 long : (c : tie.Start Inv-loop μ-loop) → length (c .args .t1 .systems) ≡ 16
 long c = search (length-mapped, needs)
 
-stored : (c : tie.At-loop Inv-loop μ-loop) → length (take (c .before .before .before .args .t1 .count) (c .before .before .before .args .t1 .systems)) ≡ c .before .clipped .result
-stored c = length-clipped (c .before .before .before .args .t1 .systems) (c .before .before .before .args .t1 .count) _ (long (c .before .before .before)) (c .before .clipped .ensures)
+stored : (c : tie.At-loop Inv-loop μ-loop) → length (take (c .before .before .before .args .t1 .count) (c .before .before .before .args .t1 .systems)) ≡ c .before .held .result
+stored c = let h = long (c .before .before .before) in simp length-take (omega (arith, c .before .held .ensures))
 
-clipped-requires : tie.Need-clipped-requires Inv-loop μ-loop
-clipped-requires c κs = search needs
+held-requires : tie.Need-held-requires Inv-loop μ-loop
+held-requires c κs = search needs
 
 loop-holds : tie.Need-loop-holds Inv-loop μ-loop
 unfolding storedAllFine
@@ -49,7 +49,7 @@ returns c =
     let l = c .before .before .before .before in
     let n = stored l in
     let m = c .before .before .before .before .before .before .before .args .t1 in
-    let at = getD-take (m .count) (m .systems) (l .loop .i) _ (omega (arith, l .before .clipped .ensures)) in
+    let at = getD-take (m .count) (m .systems) (l .loop .i) _ (omega (arith, l .before .held .ensures)) in
     sym (l .loop .inv .1 e ∙ all-stop (storedFine (systemsOf m)) _ (l .loop .i) _ (omega arith) (ap (storedFine (systemsOf m)) at ∙ sym (c .before .stored-fine .ensures _ e) ∙ not-true _ (c .if1 .taken)))
 
 add-i : tie.Need-add-i Inv-loop μ-loop
@@ -63,7 +63,7 @@ loop-again c =
     let l = c .before .before .before .before in
     let n = stored l in
     let m = c .before .before .before .before .before .before .before .args .t1 in
-    let at = getD-take (m .count) (m .systems) (l .loop .i) _ (omega (arith, l .before .clipped .ensures)) in
+    let at = getD-take (m .count) (m .systems) (l .loop .i) _ (omega (arith, l .before .held .ensures)) in
     (omega arith, λ e. l .loop .inv .1 e ∙ all-next (storedFine (systemsOf m)) _ (l .loop .i) _ (omega arith) (ap (storedFine (systemsOf m)) at ∙ sym (c .before .stored-fine .ensures _ e) ∙ not-false _ (c .if1 .left)))
 
 returns-2 : tie.Need-returns-2 Inv-loop μ-loop
@@ -79,7 +79,7 @@ systems-fine-spec =
     (tie.spec
     Inv-loop
     μ-loop
-    clipped-requires
+    held-requires
     loop-holds
     mul-s
     element-copy-out-s

@@ -9,11 +9,11 @@ use Rattle.memory.proofs.fine.typed_fine.Statement.{statement}
 use Rattle.memory.proofs.fine.typed_fine.Tie as tie
 
 -- the slice has the codes of the systems
-codes : (c : tie.After-kind-codes) → codesOf (systemsOf (c .before .before .args .m)) ≡ take (c .before .clipped .result) (c .kind-codes .result)
-codes c = rw (c .before .clipped .ensures) (sym (c .kind-codes .ensures))
+codes : (c : tie.After-kind-codes) → codesOf (systemsOf (c .before .before .args .m)) ≡ take (c .before .held .result) (c .kind-codes .result)
+codes c = rw (c .before .held .ensures) (sym (c .kind-codes .ensures))
 
-clipped-requires : tie.Need-clipped-requires
-clipped-requires c κs = search needs
+held-requires : tie.Need-held-requires
+held-requires c κs = search needs
 
 kind-codes-requires : tie.Need-kind-codes-requires
 kind-codes-requires c κs = search needs
@@ -22,7 +22,7 @@ array-share-prefix-all : tie.Need-array-share-prefix-all
 array-share-prefix-all c = search needs
 
 slice-aggregate-codes : tie.Need-slice-aggregate-codes
-slice-aggregate-codes c = let h : length (c .before .kind-codes .result) ≡ 16 = search needs in simp length-take (omega (arith, c .before .before .clipped .ensures))
+slice-aggregate-codes c = let h : length (c .before .kind-codes .result) ≡ 16 = search needs in simp length-take (omega (arith, c .before .before .held .ensures))
 
 systems-fine-requires : tie.Need-systems-fine-requires
 systems-fine-requires c κs = search needs
@@ -40,7 +40,7 @@ pub typed-fine-spec : {M : Type 1} → statement M
 typed-fine-spec =
     tie.close
     (tie.spec
-    clipped-requires
+    held-requires
     kind-codes-requires
     array-share-prefix-all
     slice-aggregate-codes

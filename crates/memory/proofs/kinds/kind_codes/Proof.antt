@@ -9,7 +9,8 @@ use Rattle.model.specs.Kinds.{ofKind}
 use Rattle.model.specs.Stored.{systemsOf}
 use Rattle.memory.specs.Codes.{codesOf}
 use Rattle.memory.proofs.Codes.{codeOf, code-at}
-use Rattle.memory.proofs.Laws.{length-mapped, length-systems, system-at, filled-turn}
+use Rattle.chains.proofs.Copies.{length-mapped}
+use Rattle.memory.proofs.Laws.{length-systems, system-at, filled-turn}
 use Rattle.memory.proofs.kinds.kind_codes.Statement.{statement}
 use Rattle.memory.proofs.kinds.kind_codes.Tie as tie
 
@@ -22,8 +23,8 @@ abbrev μ-loop : tie.MeasureT-loop
 long : (c : tie.Start Inv-loop μ-loop) → length (c .args .t1 .systems) ≡ 16
 long c = search (length-mapped, needs)
 
-clipped-requires : tie.Need-clipped-requires Inv-loop μ-loop
-clipped-requires c κs = search needs
+held-requires : tie.Need-held-requires Inv-loop μ-loop
+held-requires c κs = search needs
 
 loop-holds : tie.Need-loop-holds Inv-loop μ-loop
 loop-holds c = (search needs, refl, refl)
@@ -50,18 +51,18 @@ loop-again : tie.Need-loop-again Inv-loop μ-loop
 loop-again c =
     let l = c .before .before .before in
     let s = l .before .before in
-    let k = l .before .clipped .ensures in
+    let k = l .before .held .ensures in
     let lt = c .before .before .loop-test .taken in
     let n = length-systems (s .args .t1) _ (long s) k in
     let hl : l .loop .i < length (codesOf (systemsOf (s .args .t1))) = rw (length-map (systemsOf (s .args .t1)) codeOf) (omega arith) in
-    let e = code-at (systemsOf (s .args .t1)) (l .loop .i) (omega arith) ∙ ap codeOf (system-at (s .args .t1) _ (long s) k (l .loop .i) _ lt) in
+    let e = code-at (systemsOf (s .args .t1)) (l .loop .i) (omega arith) ∙ ap codeOf (system-at (s .args .t1) _ (long s) k (l .loop .i) lt) in
     (omega arith, simp length-set (l .loop .inv .1), filled-turn (l .loop .codes) (codesOf (systemsOf (s .args .t1))) (l .loop .i) _ 0 (omega arith) hl (l .loop .inv .2) (c .code-of .ensures ∙ sym e))
 
 returns : tie.Need-returns Inv-loop μ-loop
 returns c =
     let l = c .before in
     let s = l .before .before in
-    let k = l .before .clipped .ensures in
+    let k = l .before .held .ensures in
     let n = length-systems (s .args .t1) _ (long s) k in
     let i : min (s .args .t1 .count) 16 ≡ l .loop .i = omega arith in
     let h : length (codesOf (systemsOf (s .args .t1))) ≤ l .loop .i = rw (length-map (systemsOf (s .args .t1)) codeOf) (omega arith) in
@@ -73,7 +74,7 @@ kind-codes-spec =
     (tie.spec
     Inv-loop
     μ-loop
-    clipped-requires
+    held-requires
     loop-holds
     mul-s
     element-copy-out-s

@@ -3,7 +3,7 @@ use native.Mathlib.Omega.{arith}
 use borrow.Author.Needs.{needs}
 use borrow.Author.Tests.{not-true, not-false}
 use lib.ListN.{length, take, length-take}
-use Rattle.memory.proofs.Laws.{take-clipped}
+use Rattle.chains.proofs.Copies.{take-min}
 use Rattle.memory.proofs.names.name_fine.Statement.{statement}
 use Rattle.memory.proofs.names.name_fine.Tie as tie
 
@@ -12,7 +12,7 @@ long c = search needs
 
 -- the slice has the name's bytes
 bytes : (c : tie.After-clipped) → take (c .clipped .result) (c .before .args .n .bytes) ≡ take (c .before .args .n .len) (c .before .args .n .bytes)
-bytes c = take-clipped _ (c .before .args .n .len) _ (long (c .before)) (c .clipped .ensures)
+bytes c = rw (c .clipped .ensures) (take-min (c .before .args .n .len) 16 (c .before .args .n .bytes) (long (c .before)))
 
 clipped-requires : tie.Need-clipped-requires
 clipped-requires c κs = search needs

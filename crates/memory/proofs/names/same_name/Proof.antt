@@ -4,7 +4,7 @@ use borrow.Author.Needs.{needs}
 use lib.ListN.{length, take, length-take}
 use Rattle.model.specs.Lists.{same}
 use Rattle.model.specs.Stored.{bytesOf}
-use Rattle.memory.proofs.Laws.{take-clipped}
+use Rattle.chains.proofs.Copies.{take-min}
 use Rattle.memory.proofs.names.same_name.Statement.{statement}
 use Rattle.memory.proofs.names.same_name.Tie as tie
 
@@ -38,8 +38,8 @@ same-bytes-requires c κs = search needs
 returns : tie.Need-returns
 returns c =
     let s = c .before .before .before .before .before .before .before in
-    let ea = take-clipped (s .args .a .bytes) (s .args .a .len) _ (long-a s) (c .before .before .before .before .before .before .clipped .ensures) in
-    let eb = take-clipped (s .args .b .bytes) (s .args .b .len) _ (long-b s) (c .before .before .before .before .before .clipped2 .ensures) in
+    let ea : take (c .before .before .before .before .before .before .clipped .result) (s .args .a .bytes) ≡ bytesOf (s .args .a) = rw (c .before .before .before .before .before .before .clipped .ensures) (take-min (s .args .a .len) 16 (s .args .a .bytes) (long-a s)) in
+    let eb : take (c .before .before .before .before .before .clipped2 .result) (s .args .b .bytes) ≡ bytesOf (s .args .b) = rw (c .before .before .before .before .before .clipped2 .ensures) (take-min (s .args .b .len) 16 (s .args .b .bytes) (long-b s)) in
     c .same-bytes .ensures ∙ rw (ea, eb)
 
 pub same-name-spec : {M : Type 1} → statement M
