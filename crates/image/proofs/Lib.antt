@@ -4,5 +4,6 @@ pub mod StrictSystem
 pub mod Exact
 pub mod NumberLaws
 pub mod NameLaws
+pub mod SystemSteps
 pub mod Puts
 pub mod Signs

@@ -8,7 +8,7 @@ use native.Mathlib.Numerals.{add-one}
 use native.Mathlib.Omega.{arith}
 use lib.Dec.{leb}
 use lib.ListN.{length, getD, take, set}
-use lib.Seq.{take-suc-set}
+use lib.Seq.{take-suc-set, getD-take}
 use borrow.Author.Tests.{leb-true, le-leb}
 use Rattle.model.specs.Lists.{all, joined, table}
 use Rattle.model.specs.Image.{_>>=_, give, whole, numbers}
@@ -126,6 +126,11 @@ numbers-several (suc n) most bs l rest e =
     let t = numbers-several n most (g .1) (k .0) (k .1) (k .2) in
     let q = one-read (k .3) in
     rw (q .0, q .1) at (told-more n most (g .0) bs (g .1) (k .0) (k .1) (f .0) (f .1) t)
+
+-- the values that were read, where they are stored
+pub stored-low : (n most : ℕ) (bs values rest : List ℕ) → several n most bs ≡ some (take n values, rest) → (i : ℕ) → i < n → getD values i 0 ≤ most
+stored-low n most bs values rest e i h =
+    rw (getD-take n values i 0 h) at (numbers-several n most bs (take n values) rest e .low i)
 
 -- a list of known length, one by one
 pub listed : (n : ℕ) (l : List ℕ) → length l ≡ n → l ≡ table n (λ i. getD l i 0)

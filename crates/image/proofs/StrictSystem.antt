@@ -22,7 +22,7 @@ use Rattle.model.proofs.Basics.{either}
 use Rattle.model.proofs.Readers.{then, gave, one-read, nothing, passed}
 use Rattle.model.proofs.ImageLimits.{code-within, system-within}
 use Rattle.model.proofs.Image.{kind-back, name-back, signed-back}
-use Rattle.image.specs.Strict.{several, mostByte, mostOffset, strictName, systemFrom, strictSystem}
+use Rattle.image.specs.Strict.{several, mostByte, mostOffset, strictName, systemFrom, strictPlaced, strictSystem}
 use Rattle.image.proofs.Several.{read-two, read-three, read-four, Told, numbers-several, listed}
 
 -- ---- a name
@@ -71,7 +71,7 @@ unfolding systemBytes joined
 parted s rest = simp (append-assoc, append-nil)
 
 pub system-read : (l : List System) (s : System) (rest : List ℕ) → length l ≤ maxSystems → systemFine l s ≡ true → strictSystem (systemBytes s ++ rest) ≡ some (s, rest)
-unfolding strictSystem all give
+unfolding strictSystem strictPlaced give
 system-read l s rest h e =
     let b = system-within l s e in
     let t = numbers (s .turns .u ∷ s .turns .v ∷ s .turns .w ∷ s .pred ∷ []) ++ rest in
@@ -97,7 +97,7 @@ module _ (k : Kind) (bs h name o t after-h after-name after-o rest : List ℕ) w
       rw (parted (systemFrom k name o t) rest, eh, eo, et) (th .bytes ∙ rw (en, to .bytes, tt .bytes))
 
 pub system-told : (bs : List ℕ) (s : System) (rest : List ℕ) → strictSystem bs ≡ some (s, rest) → bs ≡ systemBytes s ++ rest
-unfolding strictSystem give
+unfolding strictSystem strictPlaced give
 system-told bs s rest e =
     let h = gave (several 2 mostByte) _ bs e in
     let k = gave (kindOf kinds (getD (h .0) 0 0)) _ (h .1) (h .3) in

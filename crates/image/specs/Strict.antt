@@ -2,6 +2,8 @@
 -- A number is taken in its shortest form only, and not above what its field can hold. proofs/Exact.antt proves that this accepts what document 01 accepts.
 use Rattle.model.specs.Base.{ℕ, zero, suc, _+_, _*_, _-_, List, [], _∷_, true, false, cond, _&&_, Option, none, some, eqb, leb, ltb, getD}
 use Rattle.model.specs.declared.Kind.{Kind}
+use Rattle.model.specs.declared.Vec3.{Vec3}
+use Rattle.model.specs.declared.Turns.{Turns}
 use Rattle.model.specs.declared.Enabled.{Enabled}
 use Rattle.model.specs.declared.OperatingPart.the-variants.{Single, Pair}
 use Rattle.model.specs.Lists.{none?}
@@ -51,25 +53,29 @@ mostOffset = 2 * offsetLimit
 unfoldable pub strictName : ℕ → Reader (List ℕ)
 strictName n = cond (leb n nameLimit) (readBytes n) fail
 
+abbrev pub offsetFrom : List ℕ → Vec3
+offsetFrom o = record { x = signedOf (getD o 0 0); y = signedOf (getD o 1 0); z = signedOf (getD o 2 0) }
+
+abbrev pub turnsFrom : List ℕ → Turns
+turnsFrom t = record { u = getD t 0 0; v = getD t 1 0; w = getD t 2 0 }
+
 -- o are the offsets as coded, t the turns and the predecessor's place
 abbrev pub systemFrom : Kind → List ℕ → List ℕ → List ℕ → System
-systemFrom k name o t =
-    record {
-      kind = k;
-      name = name;
-      offset = record { x = signedOf (getD o 0 0); y = signedOf (getD o 1 0); z = signedOf (getD o 2 0) };
-      turns = record { u = getD t 0 0; v = getD t 1 0; w = getD t 2 0 };
-      pred = getD t 3 0;
-    }
+systemFrom k name o t = record { kind = k; name = name; offset = offsetFrom o; turns = turnsFrom t; pred = getD t 3 0 }
+
+-- what comes after a system's name
+unfoldable pub strictPlaced : Kind → List ℕ → Reader System
+strictPlaced k name = do
+  o ← several 3 mostOffset
+  t ← several 4 mostByte
+  give (systemFrom k name o t)
 
 unfoldable pub strictSystem : Reader System
 strictSystem = do
   h ← several 2 mostByte
   k ← kindOf kinds (getD h 0 0)
   name ← strictName (getD h 1 0)
-  o ← several 3 mostOffset
-  t ← several 4 mostByte
-  give (systemFrom k name o t)
+  strictPlaced k name
 
 unfoldable pub strictSystems : ℕ → Reader (List System)
 strictSystems zero = give []

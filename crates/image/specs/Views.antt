@@ -2,9 +2,11 @@
 use Rattle.model.specs.Base.{ℕ, List, Option, none, some, cond, ltb, take, drop}
 use Rattle.image.specs.declared.numbers.Number.{Number}
 use Rattle.image.specs.declared.numbers.Number.the-variants.{Read, Refused}
-use Rattle.model.specs.Stored.{bytesOf}
+use Rattle.model.specs.Stored.{bytesOf, systemOf}
 use Rattle.image.specs.declared.numbers.Numbers.{Numbers}
+use Rattle.model.specs.Memory.{System}
 use Rattle.image.specs.declared.names.NameRead.{NameRead}
+use Rattle.image.specs.declared.systems.SystemRead.{SystemRead}
 
 -- a number and the bytes after it
 abbrev pub numberRead : List ℕ → Number → Option (ℕ × List ℕ)
@@ -21,3 +23,7 @@ numbersRead bs count r = cond (r .ok) (some (take count (r .values), drop (r .ne
 -- a name and the bytes after it
 abbrev pub nameRead : List ℕ → NameRead → Option (List ℕ × List ℕ)
 nameRead bs r = cond (r .ok) (some (bytesOf (r .name), drop (r .next) bs)) none
+
+-- a system and the bytes after it
+abbrev pub systemRead : List ℕ → SystemRead → Option (System × List ℕ)
+systemRead bs r = cond (r .ok) (some (systemOf (r .system), drop (r .next) bs)) none

@@ -2,3 +2,4 @@
 mod codes;
 mod names;
 mod numbers;
+mod systems;
