@@ -6,4 +6,5 @@ pub mod NumberLaws
 pub mod NameLaws
 pub mod SystemSteps
 pub mod Puts
+pub mod SystemPuts
 pub mod Signs

@@ -17,9 +17,11 @@ use model::Vec3;
 ghost use Prim.Native.Nat.{_+_, _≤_, _<_, _^_};
 ghost use mathlib.Core.Path.{_≡_};
 ghost use mathlib.Core.Bool.{true, false};
+ghost use mathlib.Core.List.{[], _∷_};
 ghost use lib.IntN.{natAbs};
-ghost use lib.ListN.{length, getD, drop};
-ghost use Rattle.model.specs.Image.{systemBytes, signedOf};
+ghost use lib.ListN.{length, getD, take, drop};
+ghost use Rattle.model.specs.Kinds.{ofKind};
+ghost use Rattle.model.specs.Image.{systemBytes, signedCode};
 ghost use Rattle.model.specs.Stored.{bytesOf, systemOf, nameShaped};
 ghost use Rattle.image.specs.Put.{Put};
 ghost use Rattle.image.specs.Strict.{offsetFrom, turnsFrom, strictPlaced, strictSystem};
@@ -121,6 +123,25 @@ pub fn read_system(bytes: &[u8], at: usize) -> SystemRead
     read_placed(bytes, named.next, kind, name)
 }
 
+fn head_of(kind: Kind, len: u8) -> [u64; 4]
+    ensures { λ r. ⌜ take 2 r ≡ ofKind kind .code ∷ len ∷ [] ⌝ }
+{
+    [code_of(kind) as u64, len as u64, 0, 0]
+}
+
+fn offsets_of(o: Vec3) -> [u64; 4]
+    requires { ⌜ (natAbs (o .x) < 2 ^ 62) × (natAbs (o .y) < 2 ^ 62) × (natAbs (o .z) < 2 ^ 62) ⌝ }
+    ensures { λ r. ⌜ take 3 r ≡ signedCode (o .x) ∷ signedCode (o .y) ∷ signedCode (o .z) ∷ [] ⌝ }
+{
+    [signed_code(o.x), signed_code(o.y), signed_code(o.z), 0]
+}
+
+fn turned_of(t: Turns, pred: u8) -> [u64; 4]
+    ensures { λ r. ⌜ take 4 r ≡ t .u ∷ t .v ∷ t .w ∷ pred ∷ [] ⌝ }
+{
+    [t.u as u64, t.v as u64, t.w as u64, pred as u64]
+}
+
 // Writes a system from out[at] on; the place after it.
 pub fn write_system(out: &mut [u8], at: usize, s: System) -> usize
     requires { ⌜ (nameShaped s ≡ true) × (at + length (systemBytes (systemOf s)) ≤ length (now out)) ⌝ }
@@ -129,13 +150,13 @@ pub fn write_system(out: &mut [u8], at: usize, s: System) -> usize
 {
     let kind = s.kind;
     let name = s.name;
-    let o = s.offset;
-    let t = s.turns;
-    let head = [code_of(kind) as u64, name.len as u64, 0, 0];
-    let offsets = [signed_code(o.x), signed_code(o.y), signed_code(o.z), 0];
-    let turned = [t.u as u64, t.v as u64, t.w as u64, s.pred as u64];
-    let i = write_numbers(out, at, head, 2);
-    let j = write_name(out, i, name);
-    let k = write_numbers(out, j, offsets, 3);
-    write_numbers(out, k, turned, 4)
+    let offset = s.offset;
+    let turns = s.turns;
+    let head = head_of(kind, name.len);
+    let offsets = offsets_of(offset);
+    let turned = turned_of(turns, s.pred);
+    let named_at = write_numbers(out, at, head, 2);
+    let placed_at = write_name(out, named_at, name);
+    let turned_at = write_numbers(out, placed_at, offsets, 3);
+    write_numbers(out, turned_at, turned, 4)
 }
