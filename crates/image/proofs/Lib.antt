@@ -5,6 +5,7 @@ pub mod Exact
 pub mod NumberLaws
 pub mod NameLaws
 pub mod SystemSteps
+pub mod EnabledSteps
 pub mod Puts
 pub mod SystemPuts
 pub mod Signs

@@ -6,7 +6,9 @@ use Rattle.model.specs.Stored.{bytesOf, systemOf}
 use Rattle.image.specs.declared.numbers.Numbers.{Numbers}
 use Rattle.model.specs.Memory.{System}
 use Rattle.image.specs.declared.names.NameRead.{NameRead}
+use Rattle.model.specs.declared.Enabled.{Enabled}
 use Rattle.image.specs.declared.systems.SystemRead.{SystemRead}
+use Rattle.image.specs.declared.enabled.EnabledRead.{EnabledRead}
 
 -- a number and the bytes after it
 abbrev pub numberRead : List ℕ → Number → Option (ℕ × List ℕ)
@@ -27,3 +29,7 @@ nameRead bs r = cond (r .ok) (some (bytesOf (r .name), drop (r .next) bs)) none
 -- a system and the bytes after it
 abbrev pub systemRead : List ℕ → SystemRead → Option (System × List ℕ)
 systemRead bs r = cond (r .ok) (some (systemOf (r .system), drop (r .next) bs)) none
+
+-- what is enabled and the bytes after it
+abbrev pub enabledRead : List ℕ → EnabledRead → Option (Enabled × List ℕ)
+enabledRead bs r = cond (r .ok) (some (r .enabled, drop (r .next) bs)) none
