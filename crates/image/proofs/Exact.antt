@@ -23,7 +23,7 @@ use Rattle.model.proofs.Basics.{true-false, and-split}
 use Rattle.model.proofs.Readers.{then, gave, one-read, nothing, passed, chosen}
 use Rattle.model.proofs.ImageLimits.{place-within, Parts, parts}
 use Rattle.model.proofs.Image.{reads-back, accepted-exactly}
-use Rattle.image.specs.Strict.{upTo, several, mostByte, strictSystem, strictSystems, enabledFrom, strictEnabled, strictMemory, ended, strict}
+use Rattle.image.specs.Strict.{upTo, repeated, several, mostByte, strictSystem, strictSystems, enabledFrom, strictEnabled, strictMemory, ended, strict}
 use Rattle.image.proofs.Shortest.{up-to-whole, whole-up-to}
 use Rattle.image.proofs.Several.{numbers-first, read-two, read-three, read-four, Told, numbers-several, listed}
 use Rattle.image.proofs.StrictSystem.{system-read, system-told}
@@ -31,7 +31,7 @@ use Rattle.image.proofs.StrictSystem.{system-read, system-told}
 -- ---- the systems
 
 systems-read : (l k : List System) (rest : List ℕ) → length l ≤ maxSystems → all (systemFine l) k ≡ true → strictSystems (length k) (joined (map systemBytes k) ++ rest) ≡ some (k, rest)
-unfolding strictSystems joined all give
+unfolding repeated joined all give
 systems-read l [] rest h e = refl
 systems-read l (s ∷ k) rest h e =
     let f = and-split (systemFine l s) (all (systemFine l) k) e in
@@ -55,7 +55,7 @@ one-told n bs mid s k rest e t =
     }
 
 systems-told : (n : ℕ) (bs : List ℕ) (k : List System) (rest : List ℕ) → strictSystems n bs ≡ some (k, rest) → ToldAll n bs k rest
-unfolding strictSystems give
+unfolding repeated give
 systems-told zero bs k rest e = let q = one-read e in rw (q .0) at (none-told (q .1))
 systems-told (suc n) bs k rest e =
     let s = gave strictSystem _ bs e in

@@ -1,5 +1,6 @@
 pub mod Shortest
 pub mod Several
+pub mod Turns
 pub mod StrictSystem
 pub mod Exact
 pub mod NumberLaws

@@ -14,7 +14,7 @@ use Rattle.model.specs.Lists.{all, joined, table}
 use Rattle.model.specs.Image.{_>>=_, give, whole, numbers}
 use Rattle.model.proofs.Basics.{and-split}
 use Rattle.model.proofs.Readers.{then, then-none, gave, one-read}
-use Rattle.image.specs.Strict.{upTo, several}
+use Rattle.image.specs.Strict.{upTo, repeated, several}
 use Rattle.image.proofs.Shortest.{up-to-whole, whole-up-to}
 
 pub numbers-first : (n : ℕ) (l rest : List ℕ) → numbers (n ∷ l) ++ rest ≡ whole n ++ (numbers l ++ rest)
@@ -24,7 +24,7 @@ numbers-first n l rest = append-assoc (whole n) (numbers l) rest
 -- ---- written, then read
 
 pub several-numbers : (most : ℕ) (l rest : List ℕ) → all (λ n. leb n most) l ≡ true → several (length l) most (numbers l ++ rest) ≡ some (l, rest)
-unfolding several numbers joined all give
+unfolding repeated numbers joined all give
 several-numbers most [] rest e = refl
 several-numbers most (n ∷ l) rest e =
     let f = and-split (leb n most) (all (λ n. leb n most) l) e in
@@ -45,52 +45,6 @@ module _ (most : ℕ) (rest : List ℕ) where
   unfolding all
   read-four {a} {b} {c} {d} p q r s =
       several-numbers most (a ∷ b ∷ c ∷ d ∷ []) rest (rw (le-leb a most p, le-leb b most q, le-leb c most r, le-leb d most s))
-
--- ---- in turns: what was read so far stands before what is left to read
-
-abbrev pub prefixed : List ℕ → Option (List ℕ × List ℕ) → Option (List ℕ × List ℕ)
-prefixed l none = none
-prefixed l (some p) = some (l ++ p .0, p .1)
-
-prefixed-twice : (l k : List ℕ) (o : Option (List ℕ × List ℕ)) → prefixed l (prefixed k o) ≡ prefixed (l ++ k) o
-prefixed-twice l k none = refl
-prefixed-twice l k (some p) = ap (λ (j : List ℕ). some (j, p .1)) (sym (append-assoc l k (p .0)))
-
-first-read : (n most : ℕ) (bs : List ℕ) (x : ℕ) (rest : List ℕ) → upTo most bs ≡ some (x, rest) → several (suc n) most bs ≡ prefixed (x ∷ []) (several n most rest)
-unfolding several give
-first-read n most bs x rest e = then (upTo most) _ bs e ∙ cases (several n most rest) refl
-  where
-    cases : (o : Option (List ℕ × List ℕ)) → several n most rest ≡ o → _>>=_ (several n most) (λ l. give (x ∷ l)) rest ≡ prefixed (x ∷ []) (several n most rest)
-    cases none q = then-none (several n most) _ rest q ∙ rw q
-    cases (some p) q = then (several n most) _ rest q ∙ rw q
-
-pub turn-first : (count most : ℕ) (bs : List ℕ) → several count most bs ≡ prefixed [] (several (count - 0) most bs)
-turn-first count most bs = let n : count - 0 ≡ count = omega arith in rw n (cases (several count most bs))
-  where
-    cases : (o : Option (List ℕ × List ℕ)) → o ≡ prefixed [] o
-    cases none = refl
-    cases (some p) = refl
-
-module _ (count i most : ℕ) (mid : List ℕ) where
-  pub turn-read : (values : List ℕ) (x : ℕ) (rest : List ℕ) → i < count → i < length values → upTo most mid ≡ some (x, rest)
-      → prefixed (take i values) (several (count - i) most mid) ≡ prefixed (take (i + 1) (set values i x)) (several (count - (i + 1)) most rest)
-  turn-read values x rest h g e =
-      let n : count - i ≡ suc (count - (i + 1)) = omega arith in
-      rw (n, first-read (count - (i + 1)) most mid x rest e, prefixed-twice (take i values) (x ∷ []) (several (count - (i + 1)) most rest))
-      (rw (add-one, take-suc-set values i x g))
-
-  pub turn-refused : (l : List ℕ) → i < count → upTo most mid ≡ none → prefixed l (several (count - i) most mid) ≡ none
-  unfolding several
-  turn-refused l h e =
-      let n : count - i ≡ suc (count - (i + 1)) = omega arith in
-      rw n (ap (prefixed l) (then-none (upTo most) _ mid e))
-
-  pub turn-last : (values : List ℕ) → i ≤ count → count ≤ i → prefixed (take i values) (several (count - i) most mid) ≡ some (take count values, mid)
-  unfolding several give
-  turn-last values h g =
-      let n : count - i ≡ 0 = omega arith in
-      let e : i ≡ count = omega arith in
-      rw (n, e, append-nil (take count values))
 
 -- ---- read, so written
 
@@ -117,7 +71,7 @@ told-more n most x bs mid l rest e h t =
     low (suc i) = t .low i
 
 pub numbers-several : (n most : ℕ) (bs l rest : List ℕ) → several n most bs ≡ some (l, rest) → Told n most bs l rest
-unfolding several give
+unfolding repeated give
 numbers-several zero most bs l rest e = let q = one-read e in rw (q .0) at (told-none most (q .1))
 numbers-several (suc n) most bs l rest e =
     let g = gave (upTo most) _ bs e in

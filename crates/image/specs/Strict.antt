@@ -33,13 +33,17 @@ within most (some p) = cond (leb (p .0) most) (some p) none
 abbrev pub upTo : ℕ → Reader ℕ
 upTo most = λ bs. within most (short bs)
 
--- so many numbers, one after the other
-unfoldable pub several : ℕ → ℕ → Reader (List ℕ)
-several zero most = give []
-several (suc n) most = do
-  x ← upTo most
-  l ← several n most
+-- what a reader gives, so many times one after the other
+unfoldable pub repeated : {A : Type 0} → ℕ → Reader A → Reader (List A)
+repeated zero r = give []
+repeated (suc n) r = do
+  x ← r
+  l ← repeated n r
   give (x ∷ l)
+
+-- so many numbers
+abbrev pub several : ℕ → ℕ → Reader (List ℕ)
+several n most = repeated n (upTo most)
 
 -- what a byte of the memory can hold, and what an offset can be coded as
 abbrev pub mostByte : ℕ
@@ -77,12 +81,8 @@ strictSystem = do
   name ← strictName (getD h 1 0)
   strictPlaced k name
 
-unfoldable pub strictSystems : ℕ → Reader (List System)
-strictSystems zero = give []
-strictSystems (suc n) = do
-  s ← strictSystem
-  l ← strictSystems n
-  give (s ∷ l)
+abbrev pub strictSystems : ℕ → Reader (List System)
+strictSystems n = repeated n strictSystem
 
 -- ---- what is enabled
 

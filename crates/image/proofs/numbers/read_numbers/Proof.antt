@@ -2,9 +2,12 @@ use Prim.Native.Nat.{_+_, _-_, _≤_, _<_}
 use mathlib.Core.Path.{_≡_, refl, sym, _∙_}
 use native.Mathlib.Omega.{arith}
 use borrow.Author.Needs.{needs}
-use lib.ListN.{length, take, drop, length-set}
-use Rattle.image.specs.Strict.{several}
-use Rattle.image.proofs.Several.{prefixed, turn-first, turn-read, turn-refused, turn-last}
+use native.Mathlib.Numerals.{add-one}
+use mathlib.Core.List.{[], _∷_, _++_}
+use lib.ListN.{length, take, drop, set, length-set}
+use lib.Seq.{take-suc-set}
+use Rattle.image.specs.Strict.{upTo, several}
+use Rattle.image.proofs.Turns.{prefixed, turn-first, turn-read, turn-refused, turn-last}
 use Rattle.image.proofs.numbers.read_numbers.Statement.{statement}
 use Rattle.image.proofs.numbers.read_numbers.Tie as tie
 use Rattle.image.proofs.numbers.read_numbers.Reads as reads
@@ -19,7 +22,7 @@ abbrev μ-loop : tie.MeasureT-loop
 μ-loop bytes at count most values₀ next₀ i₀ values next i = count - i
 
 loop-holds : tie.Need-loop-holds Inv-loop μ-loop
-loop-holds c = (omega arith, refl, turn-first _ _ _)
+loop-holds c = (omega arith, refl, turn-first (upTo _) _ _)
 
 read-number-requires : tie.Need-read-number-requires Inv-loop μ-loop
 read-number-requires c κs = tt
@@ -32,7 +35,7 @@ returns c =
     let r = c .before .before in
     let l = r .before .before in
     let e = rw (c .enum-told .given .1) at (r .read-number .ensures) in
-    sym (l .loop .inv .2 ∙ turn-refused _ (l .loop .i) _ _ (take (l .loop .i) (l .loop .values)) (r .before .loop-test .taken) (sym e))
+    sym (l .loop .inv .2 ∙ turn-refused (upTo _) _ (l .loop .i) _ (take (l .loop .i) (l .loop .values)) (r .before .loop-test .taken) (sym e))
 
 enum-known-n : tie.Need-enum-known-n Inv-loop μ-loop
 enum-known-n c = search needs
@@ -56,16 +59,22 @@ loop-again c =
     let l = r .before .before in
     let i = l .loop .i in
     let v = l .loop .values in
-    let e = rw (n .n .given .1) at (r .read-number .ensures) in (
+    let x = n .n .given .0 .0 in
+    let e = rw (n .n .given .1) at (r .read-number .ensures) in
+    let t : take (i + 1) (set v i x) ≡ take i v ++ (x ∷ []) =
+    rw add-one (take-suc-set v i x (omega (arith, r .before .loop-test .taken, l .loop .inv .1, l .before .before .pre))) in
+    (
       omega (arith, r .before .loop-test .taken),
-      length-set v i (n .n .given .0 .0) ∙ l .loop .inv .1,
-      l .loop .inv .2 ∙ turn-read _ i _ _ v (n .n .given .0 .0) _ (r .before .loop-test .taken) (omega (arith, r .before .loop-test .taken, l .loop .inv .1, l .before .before .pre)) (sym e),
+      length-set v i x ∙ l .loop .inv .1,
+      rw t (l .loop .inv .2 ∙ turn-read (upTo _) _ i _ (take i v) x _ (r .before .loop-test .taken) (sym e)),
     )
 
 returns-2 : tie.Need-returns-2 Inv-loop μ-loop
 returns-2 c =
     let l = c .before in
-    sym (l .loop .inv .2 ∙ turn-last _ (l .loop .i) _ _ (l .loop .values) (l .loop .inv .0) (c .loop-test .left))
+    let i = l .loop .i in
+    let e : i ≡ l .before .before .args .count = omega (arith, l .loop .inv .0, c .loop-test .left) in
+    sym (l .loop .inv .2 ∙ turn-last (upTo _) _ i _ (take i (l .loop .values)) (l .loop .inv .0) (c .loop-test .left) ∙ rw e)
 
 pub read-numbers-spec : {M : Type 1} → statement M
 read-numbers-spec =
