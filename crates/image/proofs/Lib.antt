@@ -9,4 +9,5 @@ pub mod SystemSteps
 pub mod EnabledSteps
 pub mod Puts
 pub mod SystemPuts
+pub mod MemoryPuts
 pub mod Signs

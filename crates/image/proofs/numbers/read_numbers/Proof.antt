@@ -62,8 +62,7 @@ loop-again c =
     let x = n .n .given .0 .0 in
     let e = rw (n .n .given .1) at (r .read-number .ensures) in
     let t : take (i + 1) (set v i x) ≡ take i v ++ (x ∷ []) =
-    rw add-one (take-suc-set v i x (omega (arith, r .before .loop-test .taken, l .loop .inv .1, l .before .before .pre))) in
-    (
+    rw add-one (take-suc-set v i x (omega (arith, r .before .loop-test .taken, l .loop .inv .1, l .before .before .pre))) in (
       omega (arith, r .before .loop-test .taken),
       length-set v i x ∙ l .loop .inv .1,
       rw t (l .loop .inv .2 ∙ turn-read (upTo _) _ i _ (take i v) x _ (r .before .loop-test .taken) (sym e)),
