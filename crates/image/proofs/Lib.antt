@@ -7,6 +7,7 @@ pub mod NumberLaws
 pub mod NameLaws
 pub mod SystemSteps
 pub mod EnabledSteps
+pub mod MemorySteps
 pub mod Puts
 pub mod SystemPuts
 pub mod MemoryPuts

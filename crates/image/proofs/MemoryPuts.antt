@@ -13,12 +13,13 @@ use Rattle.model.specs.declared.Memory.{Memory as StoredMemory}
 use Rattle.model.specs.Lists.{joined}
 use Rattle.model.specs.Memory.{blank}
 use Rattle.model.specs.WellFormed.{systemFine, memoryFine}
-use Rattle.model.specs.Image.{signedCode, systemBytes}
+use Rattle.model.specs.Image.{edition, signedCode, numbers, systemBytes, enabledBytes, image}
 use Rattle.model.specs.Stored.{systemOf, systemsOf, memoryOf, memoryShaped}
 use Rattle.model.proofs.Basics.{all-at}
 use Rattle.model.proofs.ImageLimits.{SystemWithin, system-within, Parts, parts}
 use Rattle.memory.proofs.Laws.{getD-any, length-systems, system-at}
 use Rattle.memory.proofs.Shape.{shaped-count}
+use Rattle.image.proofs.Puts.{Left, left-all}
 
 code-large : (z : ℤ) → natAbs z ≤ signedCode z + 1
 code-large (pos n) = omega arith
@@ -58,3 +59,16 @@ module _ (m : StoredMemory) (long : length (m .systems) ≡ 16) (shaped : memory
       let w = system-within (systemsOf m) (systemOf (getD (m .systems) i d)) s in
       let o = getD (m .systems) i d .offset in
       (omega (arith, w .x, code-large (o .x)), omega (arith, w .y, code-large (o .y)), omega (arith, w .z, code-large (o .z)))
+
+  -- the parts of the image that are left to write
+  abbrev pub last-part : List ℕ
+  last-part = enabledBytes (m .enabled) ++ []
+
+  abbrev pub after-head : List ℕ
+  after-head = joined (map systemBytes (systemsOf m)) ++ last-part
+
+  pub image-left : (b : List ℕ) → Left (image (memoryOf m)) 0 b (numbers (edition ∷ m .count ∷ []) ++ after-head) 0 b
+  unfolding image joined
+  image-left b =
+      let e : numbers (edition ∷ m .count ∷ []) ≡ numbers (edition ∷ length (systemsOf m) ∷ []) = ap (λ (n : ℕ). numbers (edition ∷ n ∷ [])) (sym stored-count) in
+      rw e (left-all (image (memoryOf m)) 0 b)
