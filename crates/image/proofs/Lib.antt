@@ -3,6 +3,7 @@ pub mod Several
 pub mod Turns
 pub mod StrictSystem
 pub mod Exact
+pub mod Answering
 pub mod NumberLaws
 pub mod NameLaws
 pub mod SystemSteps
