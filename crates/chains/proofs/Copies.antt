@@ -1,6 +1,6 @@
 -- Copying numbers out of a stored memory, one system a turn.
 use Prim.Native.Nat.{ℕ, _+_, _*_, min, _<_}
-use mathlib.Core.Path.{_≡_, refl, sym, ap, _∙_}
+use mathlib.Core.Path.{_≡_, sym, ap, _∙_}
 use mathlib.Core.List.{List, [], _∷_, _++_, map, map-append}
 use native.Mathlib.Omega.{arith}
 use native.Mathlib.Decide.{decLt}

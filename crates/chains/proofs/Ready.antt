@@ -7,7 +7,7 @@ use native.Mathlib.Omega.{arith}
 use native.Mathlib.Decide.{decLt}
 use borrow.Author.Tests.{leb-true}
 use lib.IntN.{ℤ, natAbs}
-use lib.ListN.{length, getD, length-map, List·getD-map}
+use lib.ListN.{length, length-map, List·getD-map}
 use Rattle.model.specs.Limits.{maxSystems, offsetLimit}
 use Rattle.model.specs.declared.Vec3.{Vec3}
 use Rattle.model.specs.Words.{legalName, reserved, offset?}

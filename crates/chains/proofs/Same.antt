@@ -1,14 +1,14 @@
 -- Lists of systems with the same predecessors have the same chains; with the same own poses too, the same resultants.
 use Prim.Native.Nat.{ℕ, zero, suc}
 use mathlib.Core.Path.{_≡_, refl, sym, ap, _∙_}
-use mathlib.Core.Bool.{Bool, _||_}
-use mathlib.Core.List.{List, map, map-map, map-id}
+use mathlib.Core.Bool.{_||_}
+use mathlib.Core.List.{List, map-map, map-id}
 use lib.Dec.{eqb}
 use lib.ListN.{length, getD, length-map, List·getD-map}
 use Rattle.model.specs.declared.Enabled.{Enabled}
 use Rattle.model.specs.Lists.{all, any, table, least}
 use Rattle.model.specs.Pose.{followed, rotOf}
-use Rattle.model.specs.Memory.{System, Memory, Ref, systemAt, blank}
+use Rattle.model.specs.Memory.{System, Ref, systemAt, blank}
 use Rattle.model.specs.Chain.{predOf, hop, steps, chain, onChain, noRing, ownPose, poseOver, resultant}
 use Rattle.model.specs.Use.{enabledRefs, inUse}
 use Rattle.chains.specs.Flat.{predsOf, linkedBy, linkedTo, memoryBy}

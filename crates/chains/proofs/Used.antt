@@ -2,7 +2,7 @@
 use Prim.Native.Nat.{ℕ}
 use mathlib.Core.Path.{_≡_, refl, sym, ap, _∙_}
 use mathlib.Core.Bool.{Bool, true, false, _||_}
-use mathlib.Core.List.{List, [], _∷_, _++_, map}
+use mathlib.Core.List.{List}
 use Rattle.model.specs.declared.Enabled.{Enabled}
 use Rattle.model.specs.declared.OperatingPart.{OperatingPart}
 use Rattle.model.specs.declared.OperatingPart.the-variants.{Single, Pair}

@@ -48,7 +48,7 @@ module _ (l : List System) where
   unfoldable pub met : ℕ → ℕ → ℕ → Bool
   met a n q = any (eqb a) (table (least n (λ i. eqb (hop l i q) 0)) (λ i. hop l (suc i) q))
 
-  pub met-chain : (a q : ℕ) → met a (length l + 1) q ≡ onChain l a q
+  met-chain : (a q : ℕ) → met a (length l + 1) q ≡ onChain l a q
   unfolding met onChain chain steps
   met-chain a q = rw (add-one (length l))
 

@@ -6,11 +6,11 @@ use model::Vec3;
 use pose::Pose;
 ghost use mathlib.Core.Path.{_≡_};
 ghost use Prim.Native.Nat.{_≤_};
+ghost use Rattle.model.specs.Limits.{maxSystems};
 ghost use Rattle.model.specs.Stored.{systemsOf};
+ghost use Rattle.pose.specs.Poses.{poseOf};
 ghost use Rattle.chains.specs.Flat.{predsOf};
 ghost use Rattle.chains.specs.Frames.{framed, framesOf};
-ghost use Rattle.model.specs.Limits.{maxSystems};
-ghost use Rattle.pose.specs.Poses.{poseOf};
 ghost use Rattle.chains.specs.Walk.{walkOf, walked, poseAt, Holds, Laid, Enough};
 
 // Own offsets and turns, three numbers to a system.
@@ -69,7 +69,8 @@ fn own(offsets: &[i64], turns: &[u8], i: usize) -> Pose
     Pose::of(t, s)
 }
 
-// The resultant of a place, by a walk to its predecessor with one link less of depth.
+// The resultant of a place and its steps, by a walk to its predecessor with one link less of depth. For a well-formed
+// memory a depth of 16 is enough.
 pub fn reach(offsets: &[i64], turns: &[u8], preds: &[u8], place: usize, depth: usize) -> Reached
     requires { ⌜ Laid (now offsets) (now turns) (now preds) ⌝ }
     requires { ⌜ Enough (framed (now offsets) (now turns) (now preds)) place depth ⌝ }

@@ -5,14 +5,13 @@ use model::OperatingPart;
 ghost use mathlib.Core.Path.{_≡_};
 ghost use Prim.Native.Nat.{min};
 ghost use lib.Dec.{eqb};
-ghost use mathlib.Core.Bool.{_||_};
-ghost use lib.ListN.{length, take};
+ghost use lib.ListN.{length};
 ghost use Rattle.model.specs.Limits.{maxSystems};
 ghost use Rattle.model.specs.Chain.{predOf, hop, onChain, noRing};
 ghost use Rattle.model.specs.Use.{inUse, operatingPlaces};
 ghost use Rattle.model.specs.Lists.{any};
 ghost use Rattle.model.specs.Stored.{systemsOf};
-ghost use Rattle.chains.specs.Flat.{predsOf, linkedBy, LinksOf, memoryBy, usedBy};
+ghost use Rattle.chains.specs.Flat.{linkedBy, LinksOf, memoryBy, usedBy};
 
 // The predecessors' places of the first count systems.
 pub struct Links {
@@ -27,6 +26,7 @@ pub fn held(count: u8) -> usize
     if count < 16 { count as usize } else { 16 }
 }
 
+// The links of a memory, whatever it holds: a predecessor's place may lie beyond the last system.
 pub fn links_of(m: Memory) -> Links
     ensures { λ r. ⌜ LinksOf (systemsOf m) (r .preds) (r .count) ⌝ }
 {
@@ -71,6 +71,7 @@ fn ends(preds: &[u8], place: usize) -> bool
     at == 0
 }
 
+// From no place do the links go round for ever.
 pub fn no_ring(preds: &[u8]) -> bool
     ensures { λ r. ⌜ r ≡ noRing (linkedBy (now (preds .entry))) ⌝ }
 {
@@ -89,8 +90,8 @@ pub fn on_chain(preds: &[u8], a: usize, q: usize) -> bool
     ensures { λ r. ⌜ r ≡ onChain (linkedBy (now (preds .entry))) a q ⌝ }
 {
     let mut at = q;
-    let mut left = preds.len() + 1;
-    while 0 < left {
+    let mut more = preds.len() + 1;
+    while 0 < more {
         if at == 0 {
             return false;
         }
@@ -98,7 +99,7 @@ pub fn on_chain(preds: &[u8], a: usize, q: usize) -> bool
         if a == at {
             return true;
         }
-        left -= 1;
+        more -= 1;
     }
     false
 }

@@ -8,9 +8,9 @@ use native.Mathlib.Decide.{decLt, ℕ-discrete}
 use native.Mathlib.Nat.{zero-add, suc-add}
 use borrow.Author.Tests.{eq-eqb, eqb-true}
 use lib.Dec.{eqb}
-use lib.ListN.{length, getD, List·getD-eq-default}
+use lib.ListN.{length}
 use Rattle.model.specs.Lists.{table}
-use Rattle.model.specs.Memory.{System, systemAt, blank}
+use Rattle.model.specs.Memory.{System, systemAt}
 use Rattle.model.specs.Chain.{predOf, hop, noRing}
 use Rattle.model.proofs.Basics.{all-at, all-from, length-table, table-at}
 
@@ -61,16 +61,6 @@ up-to-in (suc n) x h k = go (ℕ-discrete x (suc n)) (λ k′. up-to-in n x h k�
 abbrev pub InRange : List System → Type 0
 InRange l = (j : ℕ) → systemAt l j .pred ≤ length l
 
--- it is enough to look at the systems that are there
-pub in-range-from : (l : List System) → ((i : ℕ) → i < length l → getD l i blank .pred ≤ length l) → InRange l
-unfolding systemAt
-in-range-from l f zero = omega arith
-in-range-from l f (suc i) = go (decLt i (length l))
-  where
-    go : Dec (i < length l) → getD l i blank .pred ≤ length l
-    go (yes h) = f i h
-    go (no h) = rw (List·getD-eq-default l blank {n = i} (omega arith)) (omega arith)
-
 module _ (l : List System) where
   pub hop-zero : (i : ℕ) → hop l i 0 ≡ 0
   unfolding hop predOf
@@ -120,7 +110,8 @@ module _ (l : List System) where
   no-return f i q = back f f i q (omega arith)
 
   -- where the places of a chain that ends are among m places, it ends within m links
-  within : (m : ℕ) (allowed : List ℕ) → length allowed ≤ m → (f q : ℕ) → hop l f q ≡ 0 → ((i : ℕ) → (hop l i q ≡ 0 → ⊥) → In (hop l i q) allowed) → hop l m q ≡ 0
+  within : (m : ℕ) (allowed : List ℕ) → length allowed ≤ m → (f q : ℕ) → hop l f q ≡ 0 → ((i : ℕ) → (hop l i q ≡ 0 → ⊥) → In (hop l i q) allowed) →
+      hop l m q ≡ 0
   unfolding hop predOf
   within zero [] h f q e on = go (ℕ-discrete q 0)
     where
@@ -156,7 +147,9 @@ module _ (l : List System) where
 
     -- the pigeonhole: a chain that ends does so within as many links as there are systems
     pub ends-in-time : (f q : ℕ) → q ≤ length l → hop l f q ≡ 0 → hop l (length l) q ≡ 0
-    ends-in-time f q h e = within (length l) (up-to (length l)) (omega (arith, up-to-length (length l))) f q e (λ i n. up-to-in (length l) (hop l i q) (omega arith) (hop-in-range i q h))
+    ends-in-time f q h e =
+        within (length l) (up-to (length l)) (omega (arith, up-to-length (length l))) f q e
+        (λ i n. up-to-in (length l) (hop l i q) (omega arith) (hop-in-range i q h))
 
   -- ---- no ring
 
@@ -173,4 +166,5 @@ module _ (l : List System) where
   ring-free-from f =
       let n = suc (length l) in
       let id : ℕ → ℕ = λ q. q in
-      all-from (λ q. eqb (hop l (length l) q) 0) (table n id) 0 (λ i h. let k : i < n = omega (arith, length-table n id) in rw (table-at n id 0 i k) (eq-eqb _ _ (f i (omega arith))))
+      all-from (λ q. eqb (hop l (length l) q) 0) (table n id) 0
+      (λ i h. let k : i < n = omega (arith, length-table n id) in rw (table-at n id 0 i k) (eq-eqb _ _ (f i (omega arith))))

@@ -23,5 +23,7 @@ pub mod Machine
 pub mod Trace
 pub mod Demand
 pub mod Claims
+pub mod Checklist
+pub mod Removed
 pub mod Table
 pub mod Stored

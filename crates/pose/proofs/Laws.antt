@@ -1,8 +1,9 @@
 -- The arithmetic of poses, over the definitions of document 01.
 use mathlib.Core.Path.{_≡_, refl, sym, ap, subst, _∙_}
-use mathlib.Core.Bool.{Bool}
+use mathlib.Core.Bool.{Bool, _&&_}
 use mathlib.Core.Logic.{_↔_}
 use Prim.Native.Nat.{ℕ, zero, suc}
+use mir.Facts.{and-yes}
 use lib.Dec.{T}
 use lib.IntN.{ℤ, pos, negsuc}
 use Rattle.model.specs.Lists.{least}
@@ -129,24 +130,16 @@ rotation-unturned = record { name = record { u = 0; v = 0; w = 0 }; is = refl }
 
 -- ---- the inverse
 
-twelve : Rot → Bool
-unfolding times
-twelve r = sameRot (times 12 r) unturned
+undone : Rot → Bool
+undone r = sameRot (after (undo r) r) unturned && sameRot (after r (undo r)) unturned
 
-pub undo-right : (r : Rot) → Rotation r → after r (undo r) ≡ unturned
-unfolding undo twelve times rotOf sameRot
-undo-right r n =
+-- by the test at the 64 triples
+pub undo-undoes : (r : Rot) → Rotation r → (after (undo r) r ≡ unturned) × (after r (undo r) ≡ unturned)
+unfolding undone undo times rotOf sameRot
+undo-undoes r n =
     let s = rotOf (n .name) in
-    subst (λ (o : Rot). times 12 o ≡ unturned) (n .is) (same-is (times 12 s) unturned (at-turns twelve tt (n .name)))
-
-commutes : (m : ℕ) (r : Rot) → after (times m r) r ≡ after r (times m r)
-unfolding times
-commutes zero r = sym (after-unturned r)
-commutes (suc m) r = after-assoc r (times m r) r ∙ ap (after r) (commutes m r)
-
-pub undo-left : (r : Rot) → Rotation r → after (undo r) r ≡ unturned
-unfolding undo
-undo-left r n = commutes 11 r ∙ undo-right r n
+    let h = and-yes (sameRot (after (undo s) s) unturned) (sameRot (after s (undo s)) unturned) (at-turns undone tt (n .name)) in
+    subst (λ (o : Rot). (after (undo o) o ≡ unturned) × (after o (undo o) ≡ unturned)) (n .is) (same-is (after (undo s) s) unturned (h .0), same-is (after s (undo s)) unturned (h .1))
 
 rotation-times : (m : ℕ) (r : Rot) → Rotation r → Rotation (times m r)
 unfolding times
@@ -164,7 +157,7 @@ module _ (p : Pose) (n : Rotation (p .rot)) where
       λ i.
       record {
         at = (sym (turned-plus u (minus (p .at)) (p .at)) ∙ ap (turned u) (minus-plus (p .at)) ∙ turned-origin u) i;
-        rot = undo-left (p .rot) n i;
+        rot = undo-undoes (p .rot) n .0 i;
       }
 
   pub inverse-right : followed p (inverse p) ≡ neutral
@@ -173,9 +166,9 @@ module _ (p : Pose) (n : Rotation (p .rot)) where
       λ i.
       record {
         at =
-            (ap (plus (p .at)) (sym (turned-after (p .rot) u (minus (p .at))) ∙ ap (λ (s : Rot). turned s (minus (p .at))) (undo-right (p .rot) n)) ∙
+            (ap (plus (p .at)) (sym (turned-after (p .rot) u (minus (p .at))) ∙ ap (λ (s : Rot). turned s (minus (p .at))) (undo-undoes (p .rot) n .1)) ∙
             plus-minus (p .at)) i;
-        rot = undo-right (p .rot) n i;
+        rot = undo-undoes (p .rot) n .1 i;
       }
 
   -- a pose that p takes to the neutral one on one side is the inverse

@@ -1,11 +1,11 @@
 -- Rotations by their numbers and by the triples that name them: what one computed test at 64 triples says of every triple.
 use mathlib.Core.Path.{_≡_, refl, sym, ap, subst, _∙_}
-use mathlib.Core.Bool.{Bool, true, false, _&&_}
+use mathlib.Core.Bool.{Bool, _&&_}
 use Prim.Native.Nat.{ℕ, zero, suc, _+_, _*_, _/_, _%_, _≤_, _<_}
 use native.Mathlib.Omega.{arith}
 use lib.Dec.{T, eqb, eqb→eq}
 use mir.Facts.{and-yes}
-use Rattle.model.specs.Lists.{least}
+use Rattle.model.proofs.Basics.{least-le}
 use Rattle.model.specs.Pose.{after, unturned, times, quarterX, quarterY, quarterZ, rotOf, axisNumber, sameRot, triple, shown}
 use Rattle.pose.specs.Types.{Dir, Px, Nx, Py, Ny, Pz, Nz, Rot, Turns}
 use Rattle.pose.specs.Numbers.{axisAt, rotNumber, rotAt, tripleNumber}
@@ -100,18 +100,9 @@ at-turns f all t =
 
 -- ---- the shown triple is one of the 64
 
-least-within : (n : ℕ) (p : ℕ → Bool) → least n p ≤ n
-unfolding least
-least-within zero p = omega arith
-least-within (suc n) p = go (p zero) (least-within n (λ i. p (suc i)))
-  where
-    go : (b : Bool) → least n (λ i. p (suc i)) ≤ n → elim b [ true ↦ zero | false ↦ suc (least n (λ i. p (suc i))) ] ≤ suc n
-    go true h = omega arith
-    go false h = omega arith
-
 triple-quarters : (k : ℕ) → k ≤ 63 → Quarters (triple k)
 triple-quarters k h = record { u-below = omega arith; v-below = omega arith; w-below = omega arith }
 
 pub shown-quarters : (r : Rot) → Quarters (shown r)
 unfolding shown
-shown-quarters r = triple-quarters _ (least-within 63 (λ k. sameRot (rotOf (triple k)) r))
+shown-quarters r = triple-quarters _ (least-le 63 (λ k. sameRot (rotOf (triple k)) r))

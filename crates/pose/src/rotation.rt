@@ -3,7 +3,7 @@ ghost use mathlib.Core.Path.{_≡_};
 ghost use Prim.Native.Nat.{_<_};
 ghost use Rattle.model.specs.Pose.{flip, row, coord, after, turned, axisNumber, rotOf, shown};
 ghost use Rattle.pose.specs.Poses.{Within, widest};
-ghost use Rattle.pose.specs.Numbers.{axisAt, rotAt, tripleNumber};
+ghost use Rattle.pose.specs.Numbers.{axisAt, tripleNumber};
 use crate::tables;
 use model::Dir;
 use model::Rot;

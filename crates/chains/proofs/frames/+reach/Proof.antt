@@ -25,7 +25,6 @@ reach-at t = and 3 reach-kinds.ps (is 3 reach-kinds.ps μ-reach t) reach.Pre
 abbrev reach-below : ℕ → In 3 reach-kinds.ps
 reach-below t = and 3 reach-kinds.ps (falls 3 reach-kinds.ps _<_ μ-reach t) reach.Pre
 
--- src/frames.rt:81:9
 reach-returns : (t : ℕ) → reach-lts.Need-returns (
   reach-below t,
   reach.Post,
@@ -38,7 +37,6 @@ reach-returns t c =
     let a = c .before .before .before .args in
     (walked-fixed (framed (a .offsets .now) (a .turns .now) (a .preds .now)) (a .place) (c .if1 .taken), omega arith)
 
--- src/frames.rt:83:13
 reach-sub-i : (t : ℕ) → reach-lts.Need-sub-i (
   reach-below t,
   reach.Post,
@@ -49,7 +47,6 @@ reach-sub-i : (t : ℕ) → reach-lts.Need-sub-i (
 ) (reach-at t) reach.Post
 reach-sub-i t c = omega (arith, c .if1 .left)
 
--- src/frames.rt:84:16
 reach-shared-slice-read-pred : (t : ℕ) → reach-lts.Need-shared-slice-read-pred (
   reach-below t,
   reach.Post,
@@ -63,7 +60,6 @@ reach-shared-slice-read-pred t c =
     let a = s .args in
     in-preds (a .offsets .now) (a .turns .now) (a .preds .now) (s .pre .1 .0) (a .place) (c .before .if1 .left) (s .pre .1 .1 .there)
 
--- src/frames.rt:84:16
 reach-cast-pred : (t : ℕ) → reach-lts.Need-cast-pred (
   reach-below t,
   reach.Post,
@@ -75,7 +71,6 @@ reach-cast-pred : (t : ℕ) → reach-lts.Need-cast-pred (
 reach-cast-pred t c =
     omega (arith, c .shared-slice-known3 .given (c .before .before .before .before .args .place - 1))
 
--- src/frames.rt:85:53
 reach-sub-reach : (t : ℕ) → reach-lts.Need-sub-reach (
   reach-below t,
   reach.Post,
@@ -89,7 +84,6 @@ reach-sub-reach t c =
     let a = s .args in
     omega (arith, s .pre .1 .1 .deep, steps-link (a .offsets .now) (a .turns .now) (a .preds .now) (s .pre .1 .0) (a .place) (c .before .if1 .left) (s .pre .1 .1 .there))
 
--- src/frames.rt:85:9
 reach-reach-requires : (t : ℕ) → reach-lts.Need-reach-requires (
   reach-below t,
   reach.Post,
@@ -107,7 +101,6 @@ reach-reach-requires t c κs =
       (s .pre .1 .0, enough-on (a .offsets .now) (a .turns .now) (a .preds .now) (s .pre .1 .0) (a .place) u (e .there) (a .depth) e),
     )
 
--- src/frames.rt:86:9
 reach-own-requires : (t : ℕ) → reach-lts.Need-own-requires (
   reach-below t,
   reach.Post,
@@ -121,7 +114,6 @@ reach-own-requires t c κs =
     let a = s .args in
     holds-own (a .offsets .now) (a .turns .now) (a .preds .now) (s .pre .1 .0) (a .place) (c .before .before .if1 .left) (s .pre .1 .1 .there)
 
--- src/frames.rt:88:9
 reach-follow-requires : (t : ℕ) → reach-lts.Need-follow-requires (
   reach-below t,
   reach.Post,
@@ -143,7 +135,6 @@ reach-follow-requires t c κs =
           (own-within (a .offsets .now) (a .turns .now) (a .preds .now) h (a .place) u (e .there)),
     )
 
--- src/frames.rt:89:17
 reach-add-steps : (t : ℕ) → reach-lts.Need-add-steps (
   reach-below t,
   reach.Post,
@@ -154,7 +145,6 @@ reach-add-steps : (t : ℕ) → reach-lts.Need-add-steps (
 ) (reach-at t) reach.Post
 reach-add-steps t c = omega (arith, c .before .before .before .before .reach .ensures .1)
 
--- src/frames.rt:73:1
 reach-returns-2 : (t : ℕ) → reach-lts.Need-returns-2 (
   reach-below t,
   reach.Post,

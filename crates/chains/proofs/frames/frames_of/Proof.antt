@@ -12,10 +12,8 @@ use Rattle.model.specs.Stored.{systemsOf}
 use Rattle.chains.proofs.Laid.{LaidAs, frames-laid, stored-length, stored-at}
 use Rattle.chains.proofs.frames.frames_of.Statement.{statement}
 use Rattle.chains.proofs.frames.frames_of.Tie as tie
-use Rattle.chains.proofs.frames.frames_of.Reads as reads
-use Rattle.chains.proofs.frames.frames_of.Lts as lts
-use Rattle.chains.proofs.links.held.Reads as held-reads
 
+-- the numbers of the systems passed are laid
 abbrev Inv-loop : tie.InvT-loop
 Inv-loop m count offsets₀ turns₀ i₀ offsets turns i =
     (i ≤ count) × (length offsets ≡ 48) × (length turns ≡ 48)
@@ -25,87 +23,66 @@ Inv-loop m count offsets₀ turns₀ i₀ offsets turns i =
 abbrev μ-loop : tie.MeasureT-loop
 μ-loop m count offsets₀ turns₀ i₀ offsets turns i = count - i
 
--- src/frames.rt:20:9
 held-requires : tie.Need-held-requires Inv-loop μ-loop
 held-requires c κs = tt
 
--- src/frames.rt:24:5
 loop-holds : tie.Need-loop-holds Inv-loop μ-loop
 loop-holds c = (omega arith, refl, refl, λ j h. absurd (omega arith), λ j h. absurd (omega arith))
 
--- src/frames.rt:25:17
 mul-s : tie.Need-mul-s Inv-loop μ-loop
 mul-s c = omega arith
 
--- src/frames.rt:25:17
 element-copy-out-s : tie.Need-element-copy-out-s Inv-loop μ-loop
 element-copy-out-s c = omega arith
 
--- src/frames.rt:28:18
 mul-at : tie.Need-mul-at Inv-loop μ-loop
 mul-at c = omega arith
 
--- src/frames.rt:32:9
 mul-offsets : tie.Need-mul-offsets Inv-loop μ-loop
 mul-offsets c = omega arith
 
--- src/frames.rt:32:9
 array-set-from-offsets : tie.Need-array-set-from-offsets Inv-loop μ-loop
 array-set-from-offsets c = omega arith
 
--- src/frames.rt:33:17
 add-offsets : tie.Need-add-offsets Inv-loop μ-loop
 add-offsets c = omega arith
 
--- src/frames.rt:33:9
 mul-offsets-2 : tie.Need-mul-offsets-2 Inv-loop μ-loop
 mul-offsets-2 c = omega arith
 
--- src/frames.rt:33:9
 array-set-from-offsets-2 : tie.Need-array-set-from-offsets-2 Inv-loop μ-loop
 array-set-from-offsets-2 c = omega arith
 
--- src/frames.rt:34:17
 add-offsets-2 : tie.Need-add-offsets-2 Inv-loop μ-loop
 add-offsets-2 c = omega arith
 
--- src/frames.rt:34:9
 mul-offsets-3 : tie.Need-mul-offsets-3 Inv-loop μ-loop
 mul-offsets-3 c = omega arith
 
--- src/frames.rt:34:9
 array-set-from-offsets-3 : tie.Need-array-set-from-offsets-3 Inv-loop μ-loop
 array-set-from-offsets-3 c = omega arith
 
--- src/frames.rt:35:9
 array-write-turns : tie.Need-array-write-turns Inv-loop μ-loop
 array-write-turns c = omega arith
 
--- src/frames.rt:36:15
 add-turns : tie.Need-add-turns Inv-loop μ-loop
 add-turns c = omega arith
 
--- src/frames.rt:36:9
 array-write-turns-2 : tie.Need-array-write-turns-2 Inv-loop μ-loop
 array-write-turns-2 c = omega arith
 
--- src/frames.rt:37:15
 add-turns-2 : tie.Need-add-turns-2 Inv-loop μ-loop
 add-turns-2 c = omega arith
 
--- src/frames.rt:37:9
 array-write-turns-3 : tie.Need-array-write-turns-3 Inv-loop μ-loop
 array-write-turns-3 c = omega arith
 
--- src/frames.rt:38:9
 add-i : tie.Need-add-i Inv-loop μ-loop
 add-i c = omega arith
 
--- src/frames.rt:24:5
 loop-less : tie.Need-loop-less Inv-loop μ-loop
 loop-less c = omega arith
 
--- src/frames.rt:24:5
 loop-again : tie.Need-loop-again Inv-loop μ-loop
 loop-again c =
     let w = c .before .before .before .before .before .before .before in
@@ -121,7 +98,6 @@ loop-again c =
       three-more 0 (λ j. f j .turns .u) (λ j. f j .turns .v) (λ j. f j .turns .w) (w .loop .turns) (w .loop .i) (omega arith) (w .loop .inv .4),
     )
 
--- src/frames.rt:17:1
 returns : tie.Need-returns Inv-loop μ-loop
 returns c =
     let w = c .before .loop in

@@ -7,71 +7,52 @@ use mir.Syntax.{w64}
 use mir.Val.{toZ, ofZ}
 use Rattle.chains.proofs.frames.own.Statement.{statement}
 use Rattle.chains.proofs.frames.own.Tie as tie
-use Rattle.chains.proofs.frames.own.Reads as reads
-use Rattle.chains.proofs.frames.own.Lts as lts
-use Rattle.pose.proofs.Pose.of.Reads as of-reads
 
--- src/frames.rt:60:14
 mul-at : tie.Need-mul-at
 mul-at c = search needs
 
--- src/frames.rt:61:13
 mul-x : tie.Need-mul-x
 mul-x c = search needs
 
--- src/frames.rt:61:13
 shared-slice-copy-out-x : tie.Need-shared-slice-copy-out-x
 shared-slice-copy-out-x c = search needs
 
--- src/frames.rt:62:21
 add-y : tie.Need-add-y
 add-y c = search needs
 
--- src/frames.rt:62:13
 mul-y : tie.Need-mul-y
 mul-y c = search needs
 
--- src/frames.rt:62:13
 shared-slice-copy-out-y : tie.Need-shared-slice-copy-out-y
 shared-slice-copy-out-y c = search needs
 
--- src/frames.rt:63:21
 add-z : tie.Need-add-z
 add-z c = search needs
 
--- src/frames.rt:63:13
 mul-z : tie.Need-mul-z
 mul-z c = search needs
 
--- src/frames.rt:63:13
 shared-slice-copy-out-z : tie.Need-shared-slice-copy-out-z
 shared-slice-copy-out-z c = search needs
 
--- src/frames.rt:64:13
 shared-slice-read-u : tie.Need-shared-slice-read-u
 shared-slice-read-u c = search needs
 
--- src/frames.rt:65:19
 add-v : tie.Need-add-v
 add-v c = search needs
 
--- src/frames.rt:65:13
 shared-slice-read-v : tie.Need-shared-slice-read-v
 shared-slice-read-v c = search needs
 
--- src/frames.rt:66:19
 add-w : tie.Need-add-w
 add-w c = search needs
 
--- src/frames.rt:66:13
 shared-slice-read-w : tie.Need-shared-slice-read-w
 shared-slice-read-w c = search needs
 
--- src/frames.rt:69:5
 of-requires : tie.Need-of-requires
 of-requires c κs = search needs
 
--- src/frames.rt:56:1
 returns : tie.Need-returns
 returns c =
     let s = c .before .before .before .before .before .before .before .before in

@@ -9,9 +9,6 @@ use Rattle.chains.specs.Flat.{linkedBy}
 use Rattle.chains.proofs.Walks.{hop-ended, hop-none, hop-one}
 use Rattle.chains.proofs.links.ends.Statement.{statement}
 use Rattle.chains.proofs.links.ends.Tie as tie
-use Rattle.chains.proofs.links.ends.Reads as reads
-use Rattle.chains.proofs.links.ends.Lts as lts
-use Rattle.chains.proofs.links.pred_of.Reads as pred-of-reads
 
 -- as many links as are left lead from here to where all lead from the place
 abbrev Inv-loop : tie.InvT-loop

@@ -11,45 +11,35 @@ use Rattle.model.specs.Limits.{maxSystems}
 use Rattle.chains.proofs.Copies.{length-mapped, take-min, predsBefore, one-more}
 use Rattle.chains.proofs.links.links_of.Statement.{statement}
 use Rattle.chains.proofs.links.links_of.Tie as tie
-use Rattle.chains.proofs.links.links_of.Reads as reads
-use Rattle.chains.proofs.links.links_of.Lts as lts
-use Rattle.chains.proofs.links.held.Reads as held-reads
 
+-- the places of the systems passed are copied
 abbrev Inv-loop : tie.InvT-loop
 Inv-loop m count preds₀ i₀ preds i = (i ≤ count) × (length preds ≡ maxSystems) × (take i preds ≡ predsBefore (m .systems) i)
 
 abbrev μ-loop : tie.MeasureT-loop
 μ-loop m count preds₀ i₀ preds i = count - i
 
--- src/links.rt:38:9
 held-requires : tie.Need-held-requires Inv-loop μ-loop
 held-requires c κs = tt
 
--- src/links.rt:41:5
 loop-holds : tie.Need-loop-holds Inv-loop μ-loop
 loop-holds c = (omega arith, refl, refl)
 
--- src/links.rt:42:20
 mul-preds : tie.Need-mul-preds Inv-loop μ-loop
 mul-preds c = omega arith
 
--- src/links.rt:42:20
 element-copy-out-preds : tie.Need-element-copy-out-preds Inv-loop μ-loop
 element-copy-out-preds c = omega arith
 
--- src/links.rt:42:9
 array-write-preds : tie.Need-array-write-preds Inv-loop μ-loop
 array-write-preds c = omega arith
 
--- src/links.rt:43:9
 add-i : tie.Need-add-i Inv-loop μ-loop
 add-i c = omega arith
 
--- src/links.rt:41:5
 loop-less : tie.Need-loop-less Inv-loop μ-loop
 loop-less c = omega arith
 
--- src/links.rt:41:5
 loop-again : tie.Need-loop-again Inv-loop μ-loop
 loop-again c =
     let w = c .before .loop in
@@ -57,7 +47,6 @@ loop-again c =
     let h : length (m .systems) ≡ 16 = search (length-mapped, needs) in
     (omega arith, simp length-set (w .inv .1), one-more (m .systems) (w .preds) (w .i) _ (omega arith) (omega arith) (w .inv .2))
 
--- src/links.rt:35:1
 returns : tie.Need-returns Inv-loop μ-loop
 returns c =
     let w = c .before .loop in

@@ -9,46 +9,37 @@ use Rattle.chains.specs.Flat.{linkedBy}
 use Rattle.chains.proofs.Walks.{no-ring-by, ring-by}
 use Rattle.chains.proofs.links.no_ring.Statement.{statement}
 use Rattle.chains.proofs.links.no_ring.Tie as tie
-use Rattle.chains.proofs.links.no_ring.Reads as reads
-use Rattle.chains.proofs.links.no_ring.Lts as lts
-use Rattle.chains.proofs.links.ends.Reads as ends-reads
 
+-- every place passed has a chain that ends
 abbrev Inv-loop : tie.InvT-loop
 Inv-loop preds place₀ place = (place ≤ length preds + 1) × ((q : ℕ) → q < place → hop (linkedBy preds) (length preds) q ≡ 0)
 
 abbrev μ-loop : tie.MeasureT-loop
 μ-loop preds place₀ place = length preds + 1 - place
 
--- src/links.rt:83:5
 loop-holds : tie.Need-loop-holds Inv-loop μ-loop
 loop-holds c = (omega arith, λ q h. absurd (omega arith))
 
--- src/links.rt:84:13
 ends-requires : tie.Need-ends-requires Inv-loop μ-loop
 ends-requires c κs = tt
 
--- src/links.rt:85:13
 returns : tie.Need-returns Inv-loop μ-loop
 returns c =
     let s = c .before .before .before .before .before .args in
     let w = c .before .before .before .loop in
-    sym (ring-by (s .preds .now) (w .place) (c .before .before .loop-test .taken) (eqb-false _ _ (sym (c .before .ends .ensures) ∙ not-true _ (c .if1 .taken))))
+    sym (ring-by (s .preds .now) (w .place) (omega arith) (eqb-false _ _ (sym (c .before .ends .ensures) ∙ not-true _ (c .if1 .taken))))
 
--- src/links.rt:87:9
 add-place : tie.Need-add-place Inv-loop μ-loop
 add-place c = omega arith
 
--- src/links.rt:83:5
 loop-less : tie.Need-loop-less Inv-loop μ-loop
 loop-less c = omega arith
 
--- src/links.rt:83:5
 loop-again : tie.Need-loop-again Inv-loop μ-loop
 loop-again c =
     let w = c .before .before .before .loop in
     (omega arith, below-more _ _ (w .inv .1) (eqb-true _ _ (sym (c .before .ends .ensures) ∙ not-false _ (c .if1 .left))))
 
--- src/links.rt:79:1
 returns-2 : tie.Need-returns-2 Inv-loop μ-loop
 returns-2 c =
     let s = c .before .before .before .args in

@@ -7,8 +7,6 @@ use Rattle.chains.specs.Flat.{linkedBy}
 use Rattle.chains.proofs.Walks.{pred-fixed, pred-user}
 use Rattle.chains.proofs.links.pred_of.Statement.{statement}
 use Rattle.chains.proofs.links.pred_of.Tie as tie
-use Rattle.chains.proofs.links.pred_of.Reads as reads
-use Rattle.chains.proofs.links.pred_of.Lts as lts
 
 returns : tie.Need-returns
 returns c = sym (pred-fixed (linkedBy (c .before .args .preds .now)) _ (c .if1 .taken))

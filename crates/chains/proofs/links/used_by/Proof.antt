@@ -2,9 +2,6 @@ use borrow.Author.Needs.{needs}
 use borrow.Author.Tests.{eq-eqb, ne-eqb}
 use Rattle.chains.proofs.links.used_by.Statement.{statement}
 use Rattle.chains.proofs.links.used_by.Tie as tie
-use Rattle.chains.proofs.links.used_by.Reads as reads
-use Rattle.chains.proofs.links.used_by.Lts as lts
-use Rattle.chains.proofs.links.on_chain.Reads as on-chain-reads
 
 returns : tie.Need-returns
 returns c = rw (eq-eqb _ _ (c .if1 .taken))

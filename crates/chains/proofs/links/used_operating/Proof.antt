@@ -1,42 +1,30 @@
-use mathlib.Core.Path.{sym, _∙_}
 use borrow.Author.Needs.{needs}
 use Rattle.chains.proofs.Used.{single-used, pair-used}
 use Rattle.chains.proofs.links.used_operating.Statement.{statement}
 use Rattle.chains.proofs.links.used_operating.Tie as tie
-use Rattle.chains.proofs.links.used_operating.Reads as reads
-use Rattle.chains.proofs.links.used_operating.Lts as lts
-use Rattle.chains.proofs.links.used_by.Reads as used-by-reads
 
--- src/links.rt:127:31
 enum-known-part : tie.Need-enum-known-part
 enum-known-part c = search needs
 
--- src/links.rt:127:37
 used-by-requires : tie.Need-used-by-requires
 used-by-requires c κs = search needs
 
--- src/links.rt:128:29
 enum-known-part-2 : tie.Need-enum-known-part-2
 enum-known-part-2 c = search needs
 
--- src/links.rt:129:16
 used-by-requires-2 : tie.Need-used-by-requires-2
 used-by-requires-2 c κs = search needs
 
--- src/links.rt:130:17
 returns : tie.Need-returns
 returns c =
     rw (c .before .before .before .part2 .given .1, pair-used, ← c .before .used-by2 .ensures, c .if1 .taken)
 
--- src/links.rt:132:13
 used-by-requires-3 : tie.Need-used-by-requires-3
 used-by-requires-3 c κs = search needs
 
--- src/links.rt:123:1
 returns-2 : tie.Need-returns-2
 returns-2 c = rw (c .before .before .part .given .1, single-used) (c .used-by .ensures)
 
--- src/links.rt:123:1
 returns-3 : tie.Need-returns-3
 returns-3 c =
     let w = c .before .before in

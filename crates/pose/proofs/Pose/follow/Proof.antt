@@ -7,6 +7,12 @@ use Rattle.pose.proofs.Bounds.{within-turned}
 use Rattle.pose.proofs.Pose.follow.Statement.{statement}
 use Rattle.pose.proofs.Pose.follow.Tie as tie
 
+returns : tie.Need-returns
+returns c =
+    let d = c .before .before in
+    let s = d .before .before .before .before .before in
+    λ i. record { at = (c .before .sum .ensures ∙ ap (plus (s .args .self .at)) (d .turn .ensures)) i; rot = c .compose .ensures i }
+
 turn-requires : tie.Need-turn-requires
 turn-requires c κs = search needs
 
@@ -17,12 +23,6 @@ sum-requires c κs =
 
 compose-requires : tie.Need-compose-requires
 compose-requires c κs = search needs
-
-returns : tie.Need-returns
-returns c =
-    let d = c .before .before in
-    let s = d .before .before .before .before .before in
-    λ i. record { at = (c .before .sum .ensures ∙ ap (plus (s .args .self .at)) (d .turn .ensures)) i; rot = c .compose .ensures i }
 
 pub follow-spec : {M : Type 1} → statement M
 follow-spec = tie.close (tie.spec turn-requires sum-requires compose-requires returns)

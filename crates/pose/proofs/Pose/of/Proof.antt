@@ -1,9 +1,7 @@
+-- `pose::Pose::of` meets its contract, by what `named` gives.
 use borrow.Author.Needs.{needs}
 use Rattle.pose.proofs.Pose.of.Statement.{statement}
 use Rattle.pose.proofs.Pose.of.Tie as tie
-use Rattle.pose.proofs.Pose.of.Reads as reads
-use Rattle.pose.proofs.Pose.of.Lts as lts
-use Rattle.pose.proofs.rotation.named.Reads as named-reads
 
 named-requires : tie.Need-named-requires
 named-requires c κs = search needs

@@ -1,3 +1,4 @@
+-- `pose::rotation::axis_at` meets its contract: what is left of the match is above 4.
 use mathlib.Core.Path.{_≡_, refl, sym}
 use Prim.Native.Nat.{ℕ, zero, suc, _<_}
 use native.Mathlib.Omega.{arith}

@@ -1,9 +1,7 @@
+-- `pose::rotation::compose` meets its contract, row by row.
 use borrow.Author.Needs.{needs}
 use Rattle.pose.proofs.rotation.compose.Statement.{statement}
 use Rattle.pose.proofs.rotation.compose.Tie as tie
-use Rattle.pose.proofs.rotation.compose.Reads as reads
-use Rattle.pose.proofs.rotation.compose.Lts as lts
-use Rattle.pose.proofs.rotation.row_of.Reads as row-of-reads
 
 row-of-requires : tie.Need-row-of-requires
 row-of-requires c κs = search needs

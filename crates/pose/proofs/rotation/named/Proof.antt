@@ -6,9 +6,8 @@ use Prim.Native.Nat.{ℕ, _<_}
 use lib.ListN.{getD}
 use borrow.Author.Needs.{needs}
 use Rattle.model.specs.Pose.{times, rotOf, sameRot, triple}
-use Rattle.pose.specs.Types.{Rot}
-use Rattle.pose.specs.Numbers.{rotAt, tripleNumber}
-use Rattle.pose.proofs.Upto.{upto, at}
+use Rattle.pose.specs.Numbers.{rotAt}
+use Rattle.pose.proofs.Upto.{at}
 use Rattle.pose.proofs.Naming.{same-is, rotOf-number}
 use Rattle.pose.proofs.rotation.named.Statement.{statement}
 use Rattle.pose.proofs.rotation.named.Tie as tie
