@@ -1,4 +1,4 @@
--- What a store in the array does to the systems that it stands for, and edits by name as edits by place.
+-- What a store in the array does to the systems that it stands for, and what a removal leaves at each index.
 use Prim.Native.Nat.{ℕ, zero, suc, _+_, _-_, min, _<_, _≤_}
 use mathlib.Core.Path.{_≡_, refl, sym, ap, _∙_}
 use mathlib.Core.List.{List, [], _∷_, _++_, map, map-append}
@@ -10,12 +10,12 @@ use lib.ListN.{length, take, getD, set, length-map, length-take}
 use lib.Seq.{take-set-lt, take-set-le, take-suc, take-suc-set, set-out}
 use Rattle.model.specs.declared.System.{System as StoredSystem}
 use Rattle.model.specs.declared.Memory.{Memory as StoredMemory}
-use Rattle.model.specs.Memory.{System, Memory, blank, placeNamed, isUser, systemAt}
-use Rattle.model.specs.Effects.{put, mendedSystem}
+use Rattle.model.specs.Memory.{System, blank, systemAt}
+use Rattle.model.specs.Effects.{mendedSystem}
 use Rattle.model.specs.Stored.{systemOf, systemsOf}
 use Rattle.model.proofs.Removal.{old, old-low, old-high, without, without-length, removed-at}
 use Rattle.chains.proofs.Copies.{unset}
-use Rattle.memory.specs.Put.{putAt, keptAt}
+use Rattle.memory.specs.Put.{keptAt}
 use Rattle.memory.proofs.Laws.{length-systems, system-at}
 
 map-set : (l : List StoredSystem) (i : ℕ) (s : StoredSystem) → map systemOf (set l i s) ≡ set (map systemOf l) i (systemOf s)
@@ -71,10 +71,3 @@ module _ (m : StoredMemory) (k : ℕ) (long : length (m .systems) ≡ 16) (count
 -- an array that is filled in order with what stands for the elements of a list: one turn
 pub stored-turn : (xs : List StoredSystem) (l : List System) (i : ℕ) (s : StoredSystem) → i < length xs → i < length l → map systemOf (take i xs) ≡ take i l → systemOf s ≡ getD l i blank → map systemOf (take (i + 1) (set xs i s)) ≡ take (i + 1) l
 stored-turn xs l i s hx hl e es = stored-last xs i s hx ∙ rw (add-one, take-suc l i blank, ← es, ← e)
-
--- ---- by name and by place
-
--- a system is put at the place that its name has
-pub put-by-place : (m : Memory) (s : System) → put m s ≡ putAt m (placeNamed (m .systems) (s .name)) s
-unfolding put putAt isUser
-put-by-place m s = refl

@@ -1,6 +1,6 @@
 -- Laws of the search by name, for a scan that goes place by place.
 use Prim.Native.Nat.{ℕ, zero, suc, _-_, _≤_, _<_}
-use mathlib.Core.Path.{_≡_, refl, sym, _∙_}
+use mathlib.Core.Path.{_≡_, sym, _∙_}
 use mathlib.Core.List.{List}
 use mathlib.Core.Bool.{Bool, true, false}
 use native.Mathlib.Omega.{arith}
@@ -9,7 +9,7 @@ use borrow.Author.Tests.{lt-ltb, le-ltb}
 use lib.ListN.{length, getD, List·getD-eq-default}
 use Rattle.model.specs.Lists.{same, least}
 use Rattle.model.specs.Memory.{System, blank, systemAt, placeNamed}
-use Rattle.model.proofs.Basics.{true-false, least-is, least-le, least-hit}
+use Rattle.model.proofs.Basics.{true-false, least-is, least-hit}
 
 -- the system at index j has the name
 abbrev pub has : List System → List ℕ → ℕ → Bool

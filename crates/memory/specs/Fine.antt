@@ -1,5 +1,5 @@
 -- The parts in which the code judges a memory.
-use Rattle.model.specs.Base.{ℕ, List, Bool, not, _&&_, _||_, take}
+use Rattle.model.specs.Base.{List, Bool, not, _&&_, _||_, take}
 use Rattle.model.specs.declared.System.{System as StoredSystem}
 use Rattle.model.specs.declared.Memory.{Memory as StoredMemory}
 use Rattle.model.specs.Lists.{all}

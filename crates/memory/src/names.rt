@@ -7,7 +7,7 @@ ghost use Rattle.model.specs.Lists.{same};
 ghost use Rattle.model.specs.Words.{capital, nameByte, legalName, reserved};
 ghost use Rattle.model.specs.Stored.{bytesOf};
 
-// How many of an array's 16 elements a stored length or count takes.
+// How many bytes a stored name has.
 pub fn clipped(n: u8) -> usize
     ensures { λ r. ⌜ r ≡ min n 16 ⌝ }
 {
@@ -88,6 +88,14 @@ pub fn reserved_bytes(t: &[u8]) -> bool
     let levelling = same_bytes(t, b"PI_LEVELLING");
     let hexapod = same_bytes(t, b"HEXAPOD");
     zero | (base | (levelling | hexapod))
+}
+
+pub fn reserved_name(n: Name) -> bool
+    ensures { λ r. ⌜ r ≡ reserved (bytesOf n) ⌝ }
+{
+    let k = clipped(n.len);
+    let x = n.bytes;
+    reserved_bytes(&x[..k])
 }
 
 // A user system may have the name.

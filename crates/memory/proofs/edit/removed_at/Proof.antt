@@ -1,4 +1,4 @@
-use Prim.Native.Nat.{ℕ, _+_, _-_, _<_, _≤_}
+use Prim.Native.Nat.{_-_, _<_, _≤_}
 use mathlib.Core.Path.{_≡_, refl, sym, ap, _∙_}
 use mathlib.Core.Bool.{true}
 use mathlib.Core.List.{map}
@@ -6,12 +6,12 @@ use native.Mathlib.Omega.{arith}
 use borrow.Author.Needs.{needs}
 use borrow.Author.Tests.{le-leb}
 use lib.Dec.{leb}
-use lib.ListN.{length, take, getD, length-set}
+use lib.ListN.{length, take, length-set}
 use lib.Seq.{take-all}
 use Rattle.model.specs.declared.Name.{Name}
 use Rattle.model.specs.Lists.{all}
 use Rattle.model.specs.Memory.{System, systemAt}
-use Rattle.model.specs.Effects.{mended, mendedSystem, mendedEnabled, removedAt}
+use Rattle.model.specs.Effects.{mended, mendedEnabled, removedAt}
 use Rattle.model.specs.Stored.{systemOf, systemsOf, nameShaped, memoryShaped}
 use Rattle.model.proofs.Basics.{and-join}
 use Rattle.model.proofs.Removal.{without}

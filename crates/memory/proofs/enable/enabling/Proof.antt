@@ -7,8 +7,6 @@ use Rattle.model.specs.Memory.{Memory, refOr, userRef, systemAt}
 use Rattle.model.specs.Effects.{enabling}
 use Rattle.model.specs.Use.{inGroup}
 use Rattle.memory.specs.Found.{foundRef}
-use mathlib.Core.Path.{_≡_, refl, sym, _∙_}
-use Rattle.model.specs.Memory.{refOr}
 use Rattle.memory.proofs.enable.enabling.Statement.{statement}
 use Rattle.memory.proofs.enable.enabling.Tie as tie
 

@@ -1,12 +1,11 @@
-use mathlib.Core.Path.{_≡_, refl, sym, _∙_}
+use mathlib.Core.Path.{_≡_, sym, _∙_}
 use native.Mathlib.Omega.{arith}
 use borrow.Author.Needs.{needs}
 use borrow.Author.Tests.{lt-ltb, le-ltb}
-use lib.ListN.{length, take, length-take}
+use lib.ListN.{length}
 use Rattle.model.specs.Memory.{isUser, find}
 use Rattle.memory.specs.Found.{foundRef, foundPlace}
-use Rattle.model.specs.Stored.{bytesOf}
-use Rattle.chains.proofs.Copies.{take-min}
+use Rattle.memory.proofs.Laws.{name-fits, name-count, name-bytes}
 use Rattle.memory.proofs.find.find.Statement.{statement}
 use Rattle.memory.proofs.find.find.Tie as tie
 
@@ -26,10 +25,10 @@ clipped-requires : tie.Need-clipped-requires
 clipped-requires c κs = search needs
 
 array-share-prefix-x : tie.Need-array-share-prefix-x
-array-share-prefix-x c = omega (arith, long (c .before .before .before .before), c .before .clipped .ensures)
+array-share-prefix-x c = name-fits (c .before .before .before .before .args .n) _ (long (c .before .before .before .before)) (c .before .clipped .ensures)
 
 slice-aggregate-fixed-named : tie.Need-slice-aggregate-fixed-named
-slice-aggregate-fixed-named c = let h = long (c .before .before .before .before .before) in simp length-take (omega (arith, c .before .before .clipped .ensures))
+slice-aggregate-fixed-named c = name-count _ _ (long (c .before .before .before .before .before)) (c .before .before .clipped .ensures)
 
 fixed-named-requires : tie.Need-fixed-named-requires
 fixed-named-requires c κs = search needs
@@ -39,7 +38,7 @@ unfolding find isUser
 returns-2 c =
     let s = c .before .before .before .before .before .before in
     let e = c .before .before .before .before .before .place-named .ensures in
-    let b : take (c .before .before .before .clipped .result) (s .args .n .bytes) ≡ bytesOf (s .args .n) = rw (c .before .before .before .clipped .ensures) (take-min (s .args .n .len) 16 (s .args .n .bytes) (long s)) in
+    let b = name-bytes (s .args .n) _ (long s) (c .before .before .before .clipped .ensures) in
     let z : c .before .before .before .before .before .place-named .result ≡ 0 = omega arith in
     (rw (← e, le-ltb 0 _ (c .before .before .before .before .if1 .left)) (c .fixed-named .ensures .0 _ ∙ rw b), c .fixed-named .ensures .1 ∙ sym z ∙ e)
 

@@ -1,7 +1,6 @@
 use mathlib.Core.Path.{sym, _∙_}
 use borrow.Author.Needs.{needs}
 use borrow.Author.Tests.{not-true, not-false, le-leb, lt-leb}
-use Rattle.model.specs.Memory.{System}
 use Rattle.model.specs.Stored.{systemOf}
 use Rattle.memory.specs.Fine.{storedFine}
 use Rattle.memory.proofs.Judged.{alone-and-link}

@@ -1,6 +1,5 @@
-use Prim.Native.Nat.{ℕ, _-_, _≤_, _<_}
+use Prim.Native.Nat.{_-_, _≤_}
 use mathlib.Core.Path.{_≡_, refl, sym, ap, _∙_}
-use mathlib.Core.Bool.{Bool}
 use native.Mathlib.Omega.{arith}
 use borrow.Author.Needs.{needs}
 use borrow.Author.Tests.{not-true, not-false}
@@ -10,7 +9,7 @@ use Rattle.model.specs.Lists.{all}
 use Rattle.model.specs.Stored.{systemsOf}
 use Rattle.memory.specs.Codes.{codesOf}
 use Rattle.memory.specs.Fine.{storedFine, storedAllFine}
-use Rattle.chains.proofs.Copies.{length-mapped}
+use Rattle.chains.proofs.Copies.{length-mapped, unset}
 use Rattle.memory.proofs.Tests.{all-next, all-stop, all-end}
 use Rattle.memory.proofs.fine.systems_fine.Statement.{statement}
 use Rattle.memory.proofs.fine.systems_fine.Tie as tie
@@ -49,7 +48,7 @@ returns c =
     let l = c .before .before .before .before in
     let n = stored l in
     let m = c .before .before .before .before .before .before .before .args .t1 in
-    let at = getD-take (m .count) (m .systems) (l .loop .i) _ (omega (arith, l .before .held .ensures)) in
+    let at = getD-take (m .count) (m .systems) (l .loop .i) unset (omega (arith, l .before .held .ensures)) in
     sym (l .loop .inv .1 e ∙ all-stop (storedFine (systemsOf m)) _ (l .loop .i) _ (omega arith) (ap (storedFine (systemsOf m)) at ∙ sym (c .before .stored-fine .ensures _ e) ∙ not-true _ (c .if1 .taken)))
 
 add-i : tie.Need-add-i Inv-loop μ-loop
@@ -63,7 +62,7 @@ loop-again c =
     let l = c .before .before .before .before in
     let n = stored l in
     let m = c .before .before .before .before .before .before .before .args .t1 in
-    let at = getD-take (m .count) (m .systems) (l .loop .i) _ (omega (arith, l .before .held .ensures)) in
+    let at = getD-take (m .count) (m .systems) (l .loop .i) unset (omega (arith, l .before .held .ensures)) in
     (omega arith, λ e. l .loop .inv .1 e ∙ all-next (storedFine (systemsOf m)) _ (l .loop .i) _ (omega arith) (ap (storedFine (systemsOf m)) at ∙ sym (c .before .stored-fine .ensures _ e) ∙ not-false _ (c .if1 .left)))
 
 returns-2 : tie.Need-returns-2 Inv-loop μ-loop

@@ -1,11 +1,9 @@
-use Prim.Native.Nat.{ℕ, min, _-_, _<_, _≤_}
+use Prim.Native.Nat.{min, _-_, _<_, _≤_}
 use mathlib.Core.Path.{_≡_, refl, sym, ap, _∙_}
 use native.Mathlib.Omega.{arith}
 use borrow.Author.Needs.{needs}
-use lib.ListN.{length, take, getD, length-map, length-set, List·getD-map}
+use lib.ListN.{length, take, length-map, length-set}
 use lib.Seq.{take-all}
-use Rattle.model.specs.Memory.{System, blank}
-use Rattle.model.specs.Kinds.{ofKind}
 use Rattle.model.specs.Stored.{systemsOf}
 use Rattle.memory.specs.Codes.{codesOf}
 use Rattle.memory.proofs.Codes.{codeOf, code-at}

@@ -1,9 +1,9 @@
 use mathlib.Core.Path.{_≡_, sym, _∙_}
-use native.Mathlib.Omega.{arith}
 use borrow.Author.Needs.{needs}
 use borrow.Author.Tests.{not-true, not-false}
-use lib.ListN.{length, take, length-take}
-use Rattle.chains.proofs.Copies.{take-min}
+use lib.ListN.{length, take}
+use Rattle.model.specs.Stored.{bytesOf}
+use Rattle.memory.proofs.Laws.{name-fits, name-count, name-bytes}
 use Rattle.memory.proofs.names.name_fine.Statement.{statement}
 use Rattle.memory.proofs.names.name_fine.Tie as tie
 
@@ -11,17 +11,17 @@ long : (c : tie.Start) → length (c .args .n .bytes) ≡ 16
 long c = search needs
 
 -- the slice has the name's bytes
-bytes : (c : tie.After-clipped) → take (c .clipped .result) (c .before .args .n .bytes) ≡ take (c .before .args .n .len) (c .before .args .n .bytes)
-bytes c = rw (c .clipped .ensures) (take-min (c .before .args .n .len) 16 (c .before .args .n .bytes) (long (c .before)))
+bytes : (c : tie.After-clipped) → take (c .clipped .result) (c .before .args .n .bytes) ≡ bytesOf (c .before .args .n)
+bytes c = name-bytes (c .before .args .n) _ (long (c .before)) (c .clipped .ensures)
 
 clipped-requires : tie.Need-clipped-requires
 clipped-requires c κs = search needs
 
 array-share-prefix-x : tie.Need-array-share-prefix-x
-array-share-prefix-x c = omega (arith, long (c .before .before), c .before .clipped .ensures)
+array-share-prefix-x c = name-fits (c .before .before .args .n) _ (long (c .before .before)) (c .before .clipped .ensures)
 
 slice-aggregate-t : tie.Need-slice-aggregate-t
-slice-aggregate-t c = let h = long (c .before .before .before) in simp length-take (omega (arith, c .before .before .clipped .ensures))
+slice-aggregate-t c = name-count _ _ (long (c .before .before .before)) (c .before .before .clipped .ensures)
 
 legal-bytes-requires : tie.Need-legal-bytes-requires
 legal-bytes-requires c κs = search needs
