@@ -2,13 +2,12 @@
 use Prim.Native.Nat.{ℕ, zero, suc, _+_, _≤_}
 use mathlib.Core.Path.{_≡_, refl, sym, ap, _∙_}
 use mathlib.Core.List.{List, [], _∷_, _++_, map, append-assoc, append-nil}
-use mathlib.Core.Bool.{Bool, true, false, cond, _&&_}
+use mathlib.Core.Bool.{true, cond, _&&_}
 use mathlib.Core.Option.{Option, none, some}
-use mathlib.Core.Logic.{⊎-elim}
 use native.Mathlib.Omega.{arith}
 use lib.Dec.{eqb, leb}
 use lib.ListN.{length, getD}
-use borrow.Author.Tests.{le-leb, leb-true, eqb-true}
+use borrow.Author.Tests.{le-leb, eqb-true}
 use Rattle.model.specs.declared.Enabled.{Enabled}
 use Rattle.model.specs.declared.OperatingPart.{OperatingPart}
 use Rattle.model.specs.declared.OperatingPart.the-variants.{Single, Pair}
@@ -18,10 +17,10 @@ use Rattle.model.specs.Lists.{all, joined, table, none?}
 use Rattle.model.specs.Limits.{maxSystems}
 use Rattle.model.specs.Memory.{System, Memory}
 use Rattle.model.specs.WellFormed.{isKind, systemFine, operatingFine, enabledFine, memoryFine}
-use Rattle.model.specs.Image.{give, fail, edition, Reader, whole, numbers, systemBytes, enabledBytes, image, accepted}
+use Rattle.model.specs.Image.{give, fail, edition, whole, numbers, systemBytes, enabledBytes, image, accepted}
 use Rattle.model.proofs.Basics.{true-false, and-split}
 use Rattle.model.proofs.Readers.{then, gave, one-read, nothing, passed, chosen}
-use Rattle.model.proofs.ImageLimits.{place-within, Parts, parts}
+use Rattle.model.proofs.ImageLimits.{place-within, parts}
 use Rattle.model.proofs.Image.{reads-back, accepted-exactly}
 use Rattle.image.specs.Strict.{upTo, repeated, several, mostByte, strictSystem, strictSystems, enabledFrom, strictEnabled, strictMemory, ended, strict}
 use Rattle.image.proofs.Shortest.{up-to-whole, whole-up-to}

@@ -1,6 +1,6 @@
 -- The systems of a stored memory, one after the other.
 use Prim.Native.Nat.{ℕ, _+_, min, _<_, _≤_, _^_}
-use mathlib.Core.Path.{_≡_, refl, sym, ap, _∙_}
+use mathlib.Core.Path.{_≡_, sym, ap, _∙_}
 use mathlib.Core.List.{List, [], _∷_, _++_, map}
 use mathlib.Core.Bool.{true}
 use native.Mathlib.Omega.{arith}
@@ -16,7 +16,7 @@ use Rattle.model.specs.WellFormed.{systemFine, memoryFine}
 use Rattle.model.specs.Image.{edition, signedCode, numbers, systemBytes, enabledBytes, image}
 use Rattle.model.specs.Stored.{systemOf, systemsOf, memoryOf, memoryShaped}
 use Rattle.model.proofs.Basics.{all-at}
-use Rattle.model.proofs.ImageLimits.{SystemWithin, system-within, Parts, parts}
+use Rattle.model.proofs.ImageLimits.{system-within, parts}
 use Rattle.memory.proofs.Laws.{getD-any, length-systems, system-at}
 use Rattle.memory.proofs.Shape.{shaped-count}
 use Rattle.image.proofs.Puts.{Left, left-all}

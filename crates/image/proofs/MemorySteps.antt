@@ -2,14 +2,13 @@
 use Prim.Native.Nat.{ℕ, _≤_, _<_}
 use mathlib.Core.Path.{_≡_, refl, _∙_}
 use mathlib.Core.List.{List}
-use mathlib.Core.Bool.{true, false}
 use mathlib.Core.Option.{none, some}
 use native.Mathlib.Omega.{arith}
 use lib.ListN.{getD, take}
 use lib.Seq.{getD-take}
 use borrow.Author.Tests.{eq-eqb, ne-eqb, le-leb, lt-leb}
 use Rattle.model.specs.declared.Enabled.{Enabled}
-use Rattle.model.specs.Memory.{System, Memory}
+use Rattle.model.specs.Memory.{System}
 use Rattle.model.specs.Image.{edition, give, fail}
 use Rattle.model.proofs.Readers.{then, then-none}
 use Rattle.image.specs.Strict.{several, mostByte, strictSystems, strictEnabled, strictMemory}

@@ -1,20 +1,16 @@
 -- What the number at a place is, by the byte that stands there.
 use Prim.Native.Nat.{ℕ, suc, _+_, _*_, _-_, _/_, _≤_, _<_}
-use mathlib.Core.Path.{_≡_, refl, sym, ap, _∙_}
-use mathlib.Core.List.{List, [], _∷_}
-use mathlib.Core.Bool.{true, false, _&&_}
+use mathlib.Core.Path.{_≡_, sym, _∙_}
+use mathlib.Core.List.{List}
+use mathlib.Core.Bool.{true, false}
 use mathlib.Core.Option.{none, some}
 use mathlib.Core.Logic.{⊎-elim}
 use native.Mathlib.Numerals.{add-one}
-use native.Mathlib.Nat.{div-eq-of-lt}
-use native.Mathlib.Omega.{arith}
-use lib.Dec.{ltb, leb}
+use lib.Dec.{ltb}
 use lib.ListN.{length, getD, drop, drop-of-length-le}
 use lib.Seq.{drop-cons}
-use borrow.Author.Tests.{lt-ltb, le-ltb, ltb-true, ltb-false, le-leb, lt-leb}
+use borrow.Author.Tests.{lt-ltb, ltb-true, ltb-false}
 use Rattle.model.proofs.Basics.{either}
-use Rattle.image.specs.declared.numbers.Number.{Number}
-use Rattle.image.specs.declared.numbers.Number.the-variants.{Read, Refused}
 use Rattle.image.specs.Strict.{above, short, within, upTo}
 use Rattle.image.specs.Views.{numberRead, numberUpTo}
 use Rattle.image.proofs.Shortest.{short-last, short-more, within-above, within-some, within-over, within-one, above-zero}

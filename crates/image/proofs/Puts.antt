@@ -1,7 +1,7 @@
 -- Laws of what writers leave (specs/Put.antt): one text straight after the other.
-use Prim.Native.Nat.{ℕ, zero, suc, _+_, _/_, _%_, _≤_, _<_}
+use Prim.Native.Nat.{ℕ, suc, _+_, _/_, _%_, _≤_, _<_}
 use mathlib.Core.Path.{_≡_, refl, sym, ap, _∙_}
-use mathlib.Core.List.{List, [], _∷_, _++_, append-nil}
+use mathlib.Core.List.{List, [], _∷_, _++_}
 use native.Mathlib.Nat.{add-zero, zero-add}
 use native.Mathlib.Numerals.{add-one}
 use native.Mathlib.Omega.{arith}
@@ -12,9 +12,6 @@ use Rattle.model.specs.Lists.{joined}
 use Rattle.model.specs.Image.{whole, numbers}
 use Rattle.model.proofs.Wholes.{whole-last, whole-more}
 use Rattle.image.specs.Put.{Put}
-
-pub sets-first : (b : List ℕ) (at y : ℕ) (ys : List ℕ) → sets b at (y ∷ ys) ≡ sets (set b at y) (at + 1) ys
-sets-first b at y ys = rw add-one
 
 -- a number, by its first group
 pub sets-group : (b : List ℕ) (at n : ℕ) → 128 ≤ n → sets b at (whole n) ≡ sets (set b at (n % 128 + 128)) (at + 1) (whole (n / 128))

@@ -1,19 +1,18 @@
 -- Numbers one after the other, read strictly: those that were written, and no other bytes.
-use Prim.Native.Nat.{ℕ, zero, suc, _+_, _-_, _≤_, _<_}
+use Prim.Native.Nat.{ℕ, zero, suc, _≤_, _<_}
 use mathlib.Core.Path.{_≡_, refl, sym, ap, _∙_}
-use mathlib.Core.List.{List, [], _∷_, _++_, append-assoc, append-nil}
-use mathlib.Core.Bool.{true, _&&_}
-use mathlib.Core.Option.{Option, none, some}
-use native.Mathlib.Numerals.{add-one}
+use mathlib.Core.List.{List, [], _∷_, _++_, append-assoc}
+use mathlib.Core.Bool.{true}
+use mathlib.Core.Option.{some}
 use native.Mathlib.Omega.{arith}
 use lib.Dec.{leb}
-use lib.ListN.{length, getD, take, set}
-use lib.Seq.{take-suc-set, getD-take}
+use lib.ListN.{length, getD, take}
+use lib.Seq.{getD-take}
 use borrow.Author.Tests.{leb-true, le-leb}
 use Rattle.model.specs.Lists.{all, joined, table}
-use Rattle.model.specs.Image.{_>>=_, give, whole, numbers}
+use Rattle.model.specs.Image.{give, whole, numbers}
 use Rattle.model.proofs.Basics.{and-split}
-use Rattle.model.proofs.Readers.{then, then-none, gave, one-read}
+use Rattle.model.proofs.Readers.{then, gave, one-read}
 use Rattle.image.specs.Strict.{upTo, repeated, several}
 use Rattle.image.proofs.Shortest.{up-to-whole, whole-up-to}
 

@@ -1,5 +1,5 @@
 -- A number that is read in its shortest form is the number that was written, and no other bytes are read as a number.
-use Prim.Native.Nat.{ℕ, zero, suc, _+_, _*_, _-_, _/_, _%_, _≤_, _<_}
+use Prim.Native.Nat.{ℕ, _+_, _*_, _-_, _/_, _%_, _≤_, _<_}
 use mathlib.Core.Path.{_≡_, refl, sym, ap, _∙_}
 use mathlib.Core.List.{List, [], _∷_, _++_}
 use mathlib.Core.Bool.{Bool, true, false, cond, _&&_}
@@ -10,7 +10,7 @@ use native.Mathlib.Omega.{arith}
 use lib.Dec.{ltb, leb}
 use borrow.Author.Tests.{lt-ltb, le-ltb, ltb-true, ltb-false, le-leb, leb-true, leb-false, lt-leb}
 use Rattle.model.specs.Image.{whole}
-use Rattle.model.proofs.Basics.{either, and-split, and-join}
+use Rattle.model.proofs.Basics.{either, and-split}
 use Rattle.model.proofs.Wholes.{whole-last, whole-more, by-groups}
 use Rattle.model.proofs.Readers.{passed, nothing, one-read}
 use Rattle.image.specs.Strict.{above, short, within, upTo}

@@ -1,5 +1,5 @@
 -- A system read strictly: the one that was written, and no other bytes.
-use Prim.Native.Nat.{ℕ, _+_, _*_, _/_, _%_, _≤_}
+use Prim.Native.Nat.{ℕ, _%_, _≤_}
 use mathlib.Core.Path.{_≡_, sym, ap, _∙_}
 use mathlib.Core.List.{List, [], _∷_, _++_, append-assoc, append-nil}
 use mathlib.Core.Bool.{true, false}
@@ -12,7 +12,7 @@ use lib.ListN.{length, take, drop, getD, take-append-drop}
 use lib.Seq.{length-take-le}
 use borrow.Author.Tests.{le-leb, leb-true, eqb-true, eqb-false}
 use Rattle.model.specs.declared.Kind.{Kind}
-use Rattle.model.specs.Lists.{all, joined, table}
+use Rattle.model.specs.Lists.{joined, table}
 use Rattle.model.specs.Limits.{maxSystems, nameLimit}
 use Rattle.model.specs.Kinds.{kinds, ofKind}
 use Rattle.model.specs.Memory.{System}

@@ -16,7 +16,6 @@ ghost use mathlib.Core.Bool.{true, false};
 ghost use mathlib.Core.List.{map};
 ghost use lib.ListN.{length, take, drop};
 ghost use Rattle.model.specs.Lists.{all, joined};
-ghost use Rattle.model.specs.Memory.{factory};
 ghost use Rattle.model.specs.WellFormed.{memoryFine};
 ghost use Rattle.model.specs.Image.{systemBytes, image};
 ghost use Rattle.model.specs.Stored.{systemsOf, memoryOf, nameShaped, memoryShaped};

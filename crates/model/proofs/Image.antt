@@ -1,25 +1,24 @@
 -- The saved image (specs/Image.antt): what a well-formed memory writes is read back, and nothing else is accepted.
-use Prim.Native.Nat.{ℕ, zero, suc, _+_, _*_, _-_, _/_, _%_, _≤_, _<_}
-use mathlib.Core.Path.{_≡_, refl, sym, ap, _∙_}
+use Prim.Native.Nat.{ℕ, _≤_}
+use mathlib.Core.Path.{_≡_, refl, ap, _∙_}
 use mathlib.Core.List.{List, [], _∷_, _++_, map, append-assoc, append-nil}
-use mathlib.Core.Bool.{Bool, true, false, cond, _&&_}
+use mathlib.Core.Bool.{true, _&&_}
 use mathlib.Core.Option.{Option, none, some}
-use native.Mathlib.Nat.{add-zero, mul-mod-right, mul-div-cancel-left, mul-add-mod-self-left, mul-add-div, div-add-mod, mod-lt}
+use native.Mathlib.Nat.{add-zero, mul-mod-right, mul-div-cancel-left, mul-add-mod-self-left, mul-add-div}
 use native.Mathlib.Omega.{arith}
-use lib.Dec.{eqb, leb}
 use lib.IntN.{ℤ, pos, negsuc}
-use lib.ListN.{length, take, drop, length-append}
+use lib.ListN.{length, length-append}
 use lib.Seq.{take-append-seam, drop-append-seam}
-use borrow.Author.Tests.{le-leb, eq-eqb, leb-true}
-use Rattle.model.specs.Types.{Kind, Ksd, Kst, Ksw, Ksb, Kld, Enabled, OperatingPart, Single, Pair}
+use borrow.Author.Tests.{le-leb}
+use Rattle.model.specs.Types.{Kind, Ksd, Kst, Ksw, Ksb, Kld, OperatingPart, Single, Pair}
 use Rattle.model.specs.Lists.{joined, same}
 use Rattle.model.specs.Limits.{maxSystems}
 use Rattle.model.specs.Kinds.{kinds, ofKind}
 use Rattle.model.specs.Memory.{System, Memory}
 use Rattle.model.specs.WellFormed.{memoryFine}
 use Rattle.model.specs.ImageClaims.{ReadsBack, AcceptedExactly, OneMemory}
-use Rattle.model.specs.Image.{edition, sevens, whole, signedCode, numbers, systemBytes, partNumbers, enabledBytes, image, Reader, _>>=_, give, fail, readWhole, readBytes, signedOf, kindOf, readSystem, readSystems, readPart, readMemory, imageOf?, accepted}
-use Rattle.model.proofs.Basics.{and-split, and-join, same-refl, same→≡}
+use Rattle.model.specs.Image.{whole, signedCode, numbers, systemBytes, partNumbers, enabledBytes, image, Reader, _>>=_, give, readWhole, readBytes, signedOf, kindOf, readSystem, readSystems, readPart, readMemory, imageOf?, accepted}
+use Rattle.model.proofs.Basics.{and-split, same-refl, same→≡}
 use Rattle.model.proofs.Readers.{then, nothing, passed}
 use Rattle.model.proofs.ImageLimits.{parts}
 use Rattle.model.proofs.Wholes.{read-whole}

@@ -1,14 +1,11 @@
-use Prim.Native.Nat.{_≤_}
-use mathlib.Core.Path.{_≡_, sym, ap, _∙_}
+use mathlib.Core.Path.{_≡_, sym}
 use mathlib.Core.List.{map}
-use mathlib.Core.Bool.{true}
 use mathlib.Core.Option.{some}
-use native.Mathlib.Omega.{arith}
 use lib.ListN.{take, drop, getD}
-use borrow.Author.Tests.{not-true, not-false, le-leb, eqb-true, eqb-false}
+use borrow.Author.Tests.{not-true, not-false, le-leb}
 use Rattle.model.specs.Stored.{systemOf, memoryShaped}
 use Rattle.model.proofs.Basics.{and-join}
-use Rattle.image.specs.Strict.{several, mostByte, strictSystems, strictEnabled}
+use Rattle.image.specs.Strict.{several, mostByte, strictSystems}
 use Rattle.image.proofs.MemorySteps.{no-head, other-edition, too-many, no-systems, no-enabled, memory-there}
 use borrow.Author.Needs.{needs}
 use Rattle.image.proofs.memories.read_memory.Statement.{statement}

@@ -1,6 +1,6 @@
 use Prim.Native.Nat.{ℕ, _+_, _-_, _≤_, _<_}
-use mathlib.Core.Path.{_≡_, refl, sym, ap, _∙_}
-use mathlib.Core.Bool.{true, false}
+use mathlib.Core.Path.{_≡_, refl, sym, _∙_}
+use mathlib.Core.Bool.{true}
 use mathlib.Core.List.{List, [], _∷_, _++_, map, map-append}
 use native.Mathlib.Numerals.{add-one}
 use native.Mathlib.Omega.{arith}
@@ -17,10 +17,6 @@ use Rattle.image.specs.Strict.{strictSystem, strictSystems}
 use Rattle.image.proofs.Turns.{prefixed, turn-first, turn-read, turn-refused, turn-last}
 use Rattle.image.proofs.memories.read_systems.Statement.{statement}
 use Rattle.image.proofs.memories.read_systems.Tie as tie
-use Rattle.image.proofs.memories.read_systems.Reads as reads
-use Rattle.image.proofs.memories.read_systems.Lts as lts
-use Rattle.image.proofs.systems.read_system.Reads as read-system-reads
-use Rattle.memory.proofs.factory.blank_system.Reads as blank-system-reads
 
 abbrev Inv-loop : tie.InvT-loop
 Inv-loop bytes at count systems₀ next₀ i₀ systems next i =

@@ -1,9 +1,9 @@
-use Prim.Native.Nat.{_+_, _-_, _≤_, _<_}
-use mathlib.Core.Path.{_≡_, refl, sym, ap, _∙_}
-use mathlib.Core.List.{[], _∷_, _++_, map}
+use Prim.Native.Nat.{_+_, _-_, _≤_}
+use mathlib.Core.Path.{_≡_, refl, _∙_}
+use mathlib.Core.List.{_++_, map}
 use native.Mathlib.Omega.{arith}
 use borrow.Author.Needs.{needs}
-use lib.ListN.{length, take, drop, getD}
+use lib.ListN.{length, drop, getD}
 use Rattle.model.specs.Lists.{joined}
 use Rattle.model.specs.Image.{systemBytes}
 use Rattle.model.specs.Stored.{systemOf, systemsOf}
@@ -13,9 +13,6 @@ use Rattle.image.proofs.MemoryPuts.{systems-turn, systems-end, offsets-
 use Rattle.image.proofs.Puts.{Left, left-all, left-put, left-fits, left-done, put-long}
 use Rattle.image.proofs.memories.write_systems.Statement.{statement}
 use Rattle.image.proofs.memories.write_systems.Tie as tie
-use Rattle.image.proofs.memories.write_systems.Reads as reads
-use Rattle.image.proofs.memories.write_systems.Lts as lts
-use Rattle.image.proofs.systems.write_system.Reads as write-system-reads
 
 abbrev Inv-loop : tie.InvT-loop
 Inv-loop out₀ at m count next₀ i₀ out next i =

@@ -1,4 +1,4 @@
-use Prim.Native.Nat.{_+_, _-_, _≤_, _<_}
+use Prim.Native.Nat.{_+_, _-_, _≤_}
 use mathlib.Core.Path.{_≡_, refl, sym, _∙_}
 use native.Mathlib.Omega.{arith}
 use borrow.Author.Needs.{needs}
@@ -7,8 +7,6 @@ use lib.Seq.{getD-drop}
 use Rattle.memory.proofs.Laws.{filled-turn}
 use Rattle.image.proofs.names.copied.Statement.{statement}
 use Rattle.image.proofs.names.copied.Tie as tie
-use Rattle.image.proofs.names.copied.Reads as reads
-use Rattle.image.proofs.names.copied.Lts as lts
 
 abbrev Inv-loop : tie.InvT-loop
 Inv-loop bytes at n name₀ i₀ name i =

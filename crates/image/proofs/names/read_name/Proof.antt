@@ -1,15 +1,8 @@
-use mathlib.Core.Path.{_≡_, sym, _∙_}
 use native.Mathlib.Omega.{arith}
-use lib.ListN.{length, take, drop}
 use Rattle.image.proofs.NameLaws.{name-long, name-beyond, name-there}
 use borrow.Author.Needs.{needs}
 use Rattle.image.proofs.names.read_name.Statement.{statement}
 use Rattle.image.proofs.names.read_name.Tie as tie
-use Rattle.image.proofs.names.read_name.Reads as reads
-use Rattle.image.proofs.names.read_name.Lts as lts
-use Rattle.image.proofs.names.copied.Reads as copied-reads
-use Rattle.image.proofs.names.left_from.Reads as left-from-reads
-use Rattle.image.proofs.names.no_name.Reads as no-name-reads
 
 no-name-requires : tie.Need-no-name-requires
 no-name-requires c κs = search needs

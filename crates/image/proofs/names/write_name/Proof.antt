@@ -1,6 +1,5 @@
-use Prim.Native.Nat.{_+_, _-_, _≤_, _<_}
-use mathlib.Core.Path.{_≡_, refl, sym, _∙_}
-use mathlib.Core.List.{[], _∷_, _++_}
+use Prim.Native.Nat.{_+_, _-_, _≤_}
+use mathlib.Core.Path.{_≡_, refl, _∙_}
 use native.Mathlib.Omega.{arith}
 use borrow.Author.Needs.{needs}
 use lib.ListN.{length, take, drop, getD, length-set}
@@ -8,8 +7,6 @@ use Rattle.model.specs.Stored.{bytesOf}
 use Rattle.image.proofs.Puts.{Left, left-all, left-done, left-put, left-at, put-byte, bytes-turn, bytes-end}
 use Rattle.image.proofs.names.write_name.Statement.{statement}
 use Rattle.image.proofs.names.write_name.Tie as tie
-use Rattle.image.proofs.names.write_name.Reads as reads
-use Rattle.image.proofs.names.write_name.Lts as lts
 
 abbrev Inv-loop : tie.InvT-loop
 Inv-loop out₀ at bytes n i₀ out i =

@@ -1,4 +1,4 @@
-use Prim.Native.Nat.{_+_, _-_, _≤_, _<_}
+use Prim.Native.Nat.{_+_, _-_, _≤_}
 use mathlib.Core.Path.{_≡_, refl, sym, _∙_}
 use native.Mathlib.Omega.{arith}
 use borrow.Author.Needs.{needs}
@@ -10,9 +10,6 @@ use Rattle.image.specs.Strict.{upTo, several}
 use Rattle.image.proofs.Turns.{prefixed, turn-first, turn-read, turn-refused, turn-last}
 use Rattle.image.proofs.numbers.read_numbers.Statement.{statement}
 use Rattle.image.proofs.numbers.read_numbers.Tie as tie
-use Rattle.image.proofs.numbers.read_numbers.Reads as reads
-use Rattle.image.proofs.numbers.read_numbers.Lts as lts
-use Rattle.image.proofs.numbers.read_number.Reads as read-number-reads
 
 abbrev Inv-loop : tie.InvT-loop
 Inv-loop bytes at count most values₀ next₀ i₀ values next i =

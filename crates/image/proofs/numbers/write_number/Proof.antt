@@ -1,17 +1,14 @@
-use Prim.Native.Nat.{_+_, _/_, _%_, _≤_, _<_}
+use Prim.Native.Nat.{_+_, _%_, _≤_}
 use mathlib.Core.Path.{_≡_, refl, sym, _∙_}
-use native.Mathlib.Nat.{mod-lt, div-add-mod}
+use native.Mathlib.Nat.{mod-lt}
 use native.Mathlib.Omega.{arith}
-use borrow.Author.Needs.{needs}
-use lib.ListN.{length, set, length-set}
+use lib.ListN.{length, length-set}
 use lib.Seq.{sets}
 use Rattle.model.specs.Image.{whole}
 use Rattle.model.proofs.Wholes.{less}
 use Rattle.image.proofs.Puts.{sets-group, sets-group-last, length-group, length-group-last}
 use Rattle.image.proofs.numbers.write_number.Statement.{statement}
 use Rattle.image.proofs.numbers.write_number.Tie as tie
-use Rattle.image.proofs.numbers.write_number.Reads as reads
-use Rattle.image.proofs.numbers.write_number.Lts as lts
 
 abbrev Inv-loop : tie.InvT-loop
 Inv-loop out₀ at n left₀ i₀ out left i =

@@ -1,6 +1,6 @@
-use Prim.Native.Nat.{_+_, _-_, _≤_, _<_}
-use mathlib.Core.Path.{_≡_, refl, sym, _∙_}
-use mathlib.Core.List.{[], _++_}
+use Prim.Native.Nat.{_+_, _-_, _≤_}
+use mathlib.Core.Path.{_≡_, refl, _∙_}
+use mathlib.Core.List.{_++_}
 use native.Mathlib.Omega.{arith}
 use borrow.Author.Needs.{needs}
 use lib.ListN.{length, take, drop, getD}
@@ -8,9 +8,6 @@ use Rattle.model.specs.Image.{whole, numbers}
 use Rattle.image.proofs.Puts.{Left, left-all, left-done, left-put, left-fits, put-long, numbers-turn, numbers-end}
 use Rattle.image.proofs.numbers.write_numbers.Statement.{statement}
 use Rattle.image.proofs.numbers.write_numbers.Tie as tie
-use Rattle.image.proofs.numbers.write_numbers.Reads as reads
-use Rattle.image.proofs.numbers.write_numbers.Lts as lts
-use Rattle.image.proofs.numbers.write_number.Reads as write-number-reads
 
 abbrev Inv-loop : tie.InvT-loop
 Inv-loop out₀ at count values next₀ i₀ out next i =

@@ -1,11 +1,11 @@
-use mathlib.Core.Path.{_≡_, sym, ap, _∙_}
-use mathlib.Core.Option.{none, some}
+use mathlib.Core.Path.{_≡_, sym, _∙_}
+use mathlib.Core.Option.{some}
 use lib.ListN.{take, drop, getD}
 use borrow.Author.Tests.{not-true, not-false}
 use Rattle.model.specs.Stored.{bytesOf}
 use Rattle.model.specs.Kinds.{kinds}
 use Rattle.model.specs.Image.{kindOf}
-use Rattle.image.specs.Strict.{several, mostByte, strictName}
+use Rattle.image.specs.Strict.{several, mostByte}
 use Rattle.image.proofs.SystemSteps.{coded-kind, coded-none, no-head, no-kind, no-name, named}
 use borrow.Author.Needs.{needs}
 use Rattle.image.proofs.systems.read_system.Statement.{statement}
