@@ -1,5 +1,5 @@
 -- The saved image (specs/Image.antt): what a well-formed memory writes is read back, and nothing else is accepted.
-use Prim.Native.Nat.{ℕ, _≤_}
+use Prim.Native.Nat.{ℕ, _/_, _%_, _≤_}
 use mathlib.Core.Path.{_≡_, refl, ap, _∙_}
 use mathlib.Core.List.{List, [], _∷_, _++_, map, append-assoc, append-nil}
 use mathlib.Core.Bool.{true, _&&_}
@@ -28,7 +28,10 @@ use Rattle.model.proofs.Wholes.{read-whole}
 pub signed-back : (z : ℤ) → signedOf (signedCode z) ≡ z
 unfolding signedOf
 signed-back (pos n) = rw (mul-mod-right 2 n, mul-div-cancel-left n {n = 2} (omega arith))
-signed-back (negsuc n) = rw (mul-add-mod-self-left 2 n 1, mul-add-div {m = 2} (omega arith) n 1) (rw (add-zero n))
+signed-back (negsuc n) =
+    let odd : signedCode (negsuc n) % 2 ≡ 1 = mul-add-mod-self-left 2 n 1 in
+    let half : signedCode (negsuc n) / 2 ≡ n = mul-add-div {m = 2} (omega arith) n 1 ∙ add-zero n in
+    rw (odd, half)
 
 pub kind-back : (k : Kind) (bs : List ℕ) → kindOf kinds (ofKind k .code) bs ≡ some (k, bs)
 unfolding kindOf give

@@ -16,7 +16,7 @@ use Rattle.model.specs.Kinds.{ofKind}
 use Rattle.model.specs.Memory.{System, Memory}
 use Rattle.model.specs.Words.{capital, nameByte, legalName, offset?}
 use Rattle.model.specs.WellFormed.{isKind, systemFine, operatingFine, enabledFine, memoryFine}
-use Rattle.model.specs.Image.{whole, signedCode, numbers, systemBytes, partNumbers, enabledBytes, image}
+use Rattle.model.specs.Image.{edition, whole, signedCode, numbers, systemBytes, partNumbers, enabledBytes, image}
 use Rattle.model.specs.ImageClaims.{Fits}
 use Rattle.model.proofs.Basics.{and-split, or-split, true-false}
 use Rattle.model.proofs.Wholes.{length-whole}
@@ -160,7 +160,7 @@ fits m e =
       simp length-append
           (omega (
             arith,
-            one-group 1 (omega arith),
+            one-group edition (omega arith),
             one-group (length (m .systems)) (omega (arith, p .few)),
             length-systems (m .systems) (m .systems) (p .few) (p .fine),
             length-enabled (m .systems) (m .enabled) (p .few) (p .enabled),
