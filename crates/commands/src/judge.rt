@@ -40,12 +40,12 @@ pub fn judge_define(m: Memory, level: u8, kind: Kind, n: Subject) -> u8
 pub fn judge_link(m: Memory, level: u8, a: Subject, b: Subject, equal: bool) -> u8
     ensures { λ r. ⌜ ((x y : List ℕ) → Tells (memoryOf m) x a → Tells (memoryOf m) y b → equal ≡ same x y → NumberOf level (memoryOf m) (link x y) r) ⌝ }
 {
-    let group = a.group;
+    let group_a = a.group;
     let ties = ties_of(m, a.place, equal, b.place);
     first_number(Rungs {
         absent: a.absent | b.absent,
         reserved: a.reserved,
-        locked: locked(level, group),
+        locked: locked(level, group_a),
         other: wrong_pred(a, b),
         used: ties.used,
         ring: ties.ring,
@@ -59,14 +59,14 @@ pub fn judge_copy(m: Memory, level: u8, s: Subject, d: Subject, equal: bool) -> 
 {
     let group = s.group;
     let kind = s.kind;
-    let ties = ties_of(m, d.place, equal, s.place);
+    let over = ties_of(m, d.place, equal, s.place);
     first_number(Rungs {
         absent: s.absent,
         reserved: s.reserved | d.reserved,
         locked: locked(level, group),
         other: other_type(d, kind),
-        used: ties.used,
-        ring: ties.ring,
+        used: over.used,
+        ring: over.ring,
         full: no_room(d.place, m.count),
     })
 }
