@@ -11,7 +11,7 @@ use Rattle.model.specs.Lists.{all, same}
 use Rattle.model.specs.Request.{unknown, Command, commands, readBy}
 use Rattle.model.proofs.Basics.{and-split, either}
 use Rattle.text.proofs.Lists.{same-length}
-use Rattle.request.specs.Forms.{definitions, queries}
+use Rattle.request.specs.Forms.{threeLetters, queries}
 
 module _ (c : Command) (cs : List Command) (w : List ℕ) (args : List (List ℕ)) where
   pub hit : same w (c .first) ≡ true → readBy (c ∷ cs) w args ≡ c .read args
@@ -45,12 +45,12 @@ module _ (w : List ℕ) (args : List (List ℕ)) where
       (either (same w (c .first)))
 
   pub by-four : length w ≡ 4 → readBy commands w args ≡ readBy queries w args
-  unfolding commands definitions queries all
-  by-four e = passed definitions queries (rw e)
+  unfolding commands threeLetters queries all
+  by-four e = passed threeLetters queries (rw e)
 
-  pub by-three : length w ≡ 3 → readBy commands w args ≡ readBy definitions w args
-  unfolding commands definitions queries all readBy
-  by-three e = cut definitions queries (passed queries [] (rw e))
+  pub by-three : length w ≡ 3 → readBy commands w args ≡ readBy threeLetters w args
+  unfolding commands threeLetters queries all readBy
+  by-three e = cut threeLetters queries (passed queries [] (rw e))
 
   pub by-other : (length w ≡ 4 → ⊥) → (length w ≡ 3 → ⊥) → readBy commands w args ≡ unknown
   unfolding commands all readBy

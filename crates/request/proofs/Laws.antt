@@ -8,9 +8,10 @@ use native.Mathlib.Omega.{arith}
 use lib.Dec.{eqb}
 use lib.ListN.{length}
 use borrow.Author.Tests.{ne-eqb}
+use Rattle.model.specs.declared.Kind.{Kind}
 use Rattle.model.specs.Ascii.{ascii}
 use Rattle.model.specs.Lists.{all, none?, same}
-use Rattle.model.specs.Request.{Reading, malformed, asksChange, asksList, setLevel, resultants, resultantOf, names?, oneName, twoNames, sameWords, fixedWords, levelWords, resultantWords}
+use Rattle.model.specs.Request.{Reading, malformed, asksChange, asksList, setLevel, resultants, resultantOf, definition, names?, oneName, twoNames, sameWords, fixedWords, levelWords, resultantWords}
 use Rattle.model.specs.Words.{legalName}
 use Rattle.model.proofs.Basics.{either, same-refl, same→≡, true-false}
 use Rattle.text.proofs.Lists.{and-false}
@@ -63,6 +64,12 @@ module _ (make : List ℕ → List ℕ → Reading) (a : List ℕ) where
     unfolding twoNames names? all none?
     two-good [] d e f = rw (d, e)
     two-good (c ∷ ws) d e f = true-false (sym f)
+
+-- ---- definitions
+
+pub define-none : (k : Kind) → definition k [] ≡ malformed
+unfolding definition
+define-none k = refl
 
 -- ---- fixed words
 

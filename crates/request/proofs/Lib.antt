@@ -1,5 +1,4 @@
 pub mod CommandLaws
-pub mod Defining
 pub mod Laws
 pub mod Says
 pub mod Words

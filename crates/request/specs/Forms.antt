@@ -22,12 +22,12 @@ readAs Resultants args = resultantWords args
 
 -- ---- document 01's commands by groups. The words of three letters stand first, thirteen of them; the queries have four letters
 
-unfoldable pub definitions : List Command
-definitions = take 13 commands
+unfoldable pub threeLetters : List Command
+threeLetters = take 13 commands
 
 -- behind the definitions: KLN, KCP, KRM, KEN, and then the settings
 unfoldable pub edits : List Command
-edits = drop (length kinds) definitions
+edits = drop (length kinds) threeLetters
 
 unfoldable pub settings : List Command
 settings = drop 4 edits

@@ -8,7 +8,7 @@ ghost use mathlib.Core.List.{List};
 ghost use Prim.Native.Nat.{ℕ};
 ghost use Rattle.model.specs.Request.{readBy, commands};
 ghost use Rattle.text.specs.Cursor.{wordOf, Within};
-ghost use Rattle.request.specs.Forms.{readAs, definitions, edits, settings, queries};
+ghost use Rattle.request.specs.Forms.{readAs, threeLetters, edits, settings, queries};
 
 // How arguments are read, and what is asked if they have that form.
 pub enum Form {
@@ -93,7 +93,7 @@ fn edit(line: &[u8], w: Word) -> Form
 // Definitions, and then the other words of three letters.
 fn definition(line: &[u8], w: Word) -> Form
     requires { ⌜ Within (now line) w ⌝ }
-    ensures { λ r. ⌜ ((args : List (List ℕ)) → readAs r args ≡ readBy definitions (wordOf (now (line .entry)) w) args) ⌝ }
+    ensures { λ r. ⌜ ((args : List (List ℕ)) → readAs r args ≡ readBy threeLetters (wordOf (now (line .entry)) w) args) ⌝ }
 {
     if is_word(line, w, b"KSD") {
         return Form::Definition(Kind::Ksd);

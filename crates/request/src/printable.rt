@@ -1,5 +1,4 @@
 // The bytes that a line may have.
-use text::words::between;
 ghost use mathlib.Core.Path.{_≡_};
 ghost use Rattle.model.specs.Refusals as model;
 
@@ -16,7 +15,8 @@ pub fn unreadable(line: &[u8]) -> bool
     let mut fine = true;
     let mut i = 0;
     while i < line.len() {
-        fine = fine & between(32, 126, line[i]);
+        let b = line[i];
+        fine = fine & ((32 <= b) & (b <= 126));
         i += 1;
     }
     !fine

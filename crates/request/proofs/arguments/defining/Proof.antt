@@ -8,10 +8,12 @@ use borrow.Author.Tests.{not-true, not-false}
 use Rattle.model.specs.Request.{malformed, asksChange, define, definition}
 use Rattle.model.specs.Words.{legalName}
 use Rattle.text.specs.Cursor.{wordOf, wordsFrom, Within}
+use Rattle.text.specs.Pairs.{readingOf}
 use Rattle.text.proofs.NameLaws.{name-ok, name-bytes, name-short}
+use Rattle.text.proofs.PairLaws.{definition-read, definition-unnamed}
 use Rattle.text.proofs.WordLaws.{word-within}
 use Rattle.request.specs.declared.Asked.the-variants.{Malformed, Beyond}
-use Rattle.request.proofs.Defining.{said, define-none, define-bad, define-pairs}
+use Rattle.request.proofs.Laws.{define-none}
 use Rattle.request.proofs.Says.{says-plain}
 use Rattle.request.proofs.Words.{at-word, either-way, legal-long}
 use Rattle.request.proofs.arguments.defining.Statement.{statement}
@@ -42,8 +44,8 @@ returns c =
     let n = r .before in
     let k = n .before .before .args .kind in
     says-plain Malformed (c .plain .ensures)
-    (sym (either-way (Line n) _ _ (n .next-word .ensures) (definition k) malformed (define-none k (W n))
-    (define-bad k (W n) (sym (name-ok _ _ (r .read-name .ensures)) ∙ not-true _ (c .before .if1 .taken)))))
+    (sym (either-way (Line n) _ _ (n .next-word .ensures) (definition k) malformed (define-none k)
+    (λ ws. definition-unnamed k (W n) ws (sym (name-ok _ _ (r .read-name .ensures)) ∙ not-true _ (c .before .if1 .taken)))))
 
 read-pairs-requires : tie.Need-read-pairs-requires
 read-pairs-requires c κs = within (c .before .before .before) .inside
@@ -55,13 +57,13 @@ good e = sym (name-ok _ _ (e .before .before .read-name .ensures)) ∙ not-false
 by-pairs : (d : tie.After-read-pairs) →
     let n = d .before .before .before .before in
     let k = n .before .before .args .kind in
-    definition k (wordsFrom (Line n) (n .before .before .args .at)) ≡ said k (W n) (d .read-pairs .result)
+    definition k (wordsFrom (Line n) (n .before .before .args .at)) ≡ readingOf k (W n) (d .read-pairs .result)
 by-pairs d =
     let e = d .before in
     let n = e .before .before .before in
     let k = n .before .before .args .kind in
-    ap (definition k) (at-word (Line n) _ _ (n .next-word .ensures) (legal-long (W n) (good e))) ∙ define-pairs k (W n) (good e) _ ∙
-    ap (said k (W n)) (sym (d .read-pairs .ensures))
+    ap (definition k) (at-word (Line n) _ _ (n .next-word .ensures) (legal-long (W n) (good e))) ∙ definition-read k (W n) _ (good e) ∙
+    ap (readingOf k (W n)) (sym (d .read-pairs .ensures))
 
 plain-requires-2 : tie.Need-plain-requires-2
 plain-requires-2 c κs = search needs

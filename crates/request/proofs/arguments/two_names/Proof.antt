@@ -2,6 +2,7 @@ use Prim.Native.Nat.{ℕ}
 use mathlib.Core.Path.{_≡_, sym, ap, _∙_}
 use mathlib.Core.List.{List, _∷_}
 use mathlib.Core.Bool.{true}
+use native.Mathlib.Omega.{arith}
 use borrow.Author.Needs.{needs}
 use borrow.Author.Tests.{not-true, not-false}
 use Rattle.model.specs.Request.{Reading, malformed, twoNames}
@@ -100,7 +101,7 @@ there-2 f =
     there (m .before) ∙ ap (λ (ws : List (List ℕ)). A n ∷ ws) (at-word (Line n) _ _ (m .next-word2 .ensures) (legal-long (W m) (good-2 f)))
 
 ended-requires : tie.Need-ended-requires
-ended-requires c κs = within-2 (c .before .before .before) .inside
+ended-requires c κs = omega (arith, within-2 (c .before .before .before) .inside)
 
 plain-requires-3 : tie.Need-plain-requires-3
 plain-requires-3 c κs = search needs

@@ -4,7 +4,6 @@ use mathlib.Core.List.{List}
 use mathlib.Core.Bool.{Bool, true, false, _&&_}
 use native.Mathlib.Numerals.{add-one}
 use native.Mathlib.Omega.{arith}
-use borrow.Author.Needs.{needs}
 use borrow.Author.Tests.{lt-ltb, le-ltb}
 use lib.ListN.{length, drop, getD, drop-of-length-le}
 use lib.Seq.{drop-cons}
@@ -46,11 +45,8 @@ returns c = rw (lt-ltb _ _ (c .if1 .taken))
 loop-holds : tie.Need-loop-holds Inv-loop μ-loop
 loop-holds c = (omega arith, c .if1 .left, refl)
 
-shared-slice-read-between : tie.Need-shared-slice-read-between Inv-loop μ-loop
-shared-slice-read-between c = omega arith
-
-between-requires : tie.Need-between-requires Inv-loop μ-loop
-between-requires c κs = search needs
+shared-slice-read-b : tie.Need-shared-slice-read-b Inv-loop μ-loop
+shared-slice-read-b c = omega arith
 
 add-i : tie.Need-add-i Inv-loop μ-loop
 add-i c = omega arith
@@ -60,18 +56,18 @@ loop-less c = omega arith
 
 loop-again : tie.Need-loop-again Inv-loop μ-loop
 loop-again c =
-    let k = c .before .before .before in
+    let k = c .before .before in
     let v = k .loop .inv in
-    let l = k .before .before .before .args .line .now in
-    let h = c .before .before .loop-test .taken in
-    (omega arith, v .1, v .2 ∙ turn fine l (k .loop .i) (k .loop .fine) h ∙ rw (c .between .ensures))
+    let l = k .before .before .args .line .now in
+    let h = c .before .loop-test .taken in
+    (omega arith, v .1, v .2 ∙ turn fine l (k .loop .i) (k .loop .fine) h)
 
 returns-2 : tie.Need-returns-2 Inv-loop μ-loop
 unfolding unreadable
 returns-2 c =
     let k = c .before in
     let v = k .loop .inv in
-    let l = k .before .before .before .args .line .now in
+    let l = k .before .before .args .line .now in
     rw (le-ltb _ _ (v .1), v .2 ∙ end fine l (k .loop .i) (k .loop .fine) (c .loop-test .left))
 
 pub unreadable-spec : {M : Type 1} → statement M
@@ -82,8 +78,7 @@ unreadable-spec =
     μ-loop
     returns
     loop-holds
-    shared-slice-read-between
-    between-requires
+    shared-slice-read-b
     add-i
     loop-less
     loop-again
