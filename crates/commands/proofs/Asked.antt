@@ -22,7 +22,7 @@ use Rattle.chains.proofs.Same.{links-on-chain, links-in-use}
 use Rattle.memory.proofs.Laws.{length-systems}
 use Rattle.commands.specs.declared.subject.Subject.{Subject}
 use Rattle.commands.specs.Subject.{Tells}
-use Rattle.commands.specs.Tests.{lockedAt, otherAt, wrongAt, usedAt, beforeAt, fullAt}
+use Rattle.commands.specs.Conditions.{lockedAt, otherAt, wrongAt, usedAt, beforeAt, fullAt}
 
 pub new-place : (k : ℕ) → eqb k 0 ≡ not (ltb 0 k)
 new-place zero = refl
