@@ -22,20 +22,11 @@ use Rattle.chains.proofs.Same.{links-on-chain, links-in-use}
 use Rattle.memory.proofs.Laws.{length-systems}
 use Rattle.commands.specs.declared.subject.Subject.{Subject}
 use Rattle.commands.specs.Subject.{Tells}
-use Rattle.commands.specs.Tests.{lockedAt, otherAt, wrongAt, usedAt, beforeAt, fullAt}
+use Rattle.commands.specs.Conditions.{lockedAt, otherAt, wrongAt, usedAt, beforeAt, fullAt}
 
 pub new-place : (k : ℕ) → eqb k 0 ≡ not (ltb 0 k)
 new-place zero = refl
 new-place (suc k) = rw (ne-eqb (suc k) 0 (λ e. omega arith), lt-ltb 0 (suc k) (omega arith))
-
--- ---- over flat links
-
-module _ (l : List System) (ps : List ℕ) (links : ps ≡ predsOf l) where
-  pub flat-used : (e : Enabled) (k : ℕ) → usedAt (memoryBy ps e) k ≡ usedAt (record { systems = l; enabled = e }) k
-  flat-used e k = ap (λ (t : Bool). ltb 0 k && t) (links-in-use l ps links e k)
-
-  pub flat-before : (k : ℕ) (equal : Bool) (q : ℕ) → beforeAt (linkedBy ps) k equal q ≡ beforeAt l k equal q
-  flat-before k equal q = ap (λ (t : Bool). ltb 0 k && (equal || t)) (links-on-chain l ps links k q)
 
 -- ---- of a name
 
@@ -75,3 +66,12 @@ full-count m long = go (decLt (m .count) 16)
 pub full-is : (m : StoredMemory) (n : List ℕ) (x : Subject) → length (m .systems) ≡ 16 → Tells (memoryOf m) n x → fullAt (x .place) (m .count) ≡ noRoom (memoryOf m) n
 unfolding noRoom isUser
 full-is m n x long t = rw (t .place-is) (ap (λ (b : Bool). not (ltb 0 (placeNamed (systemsOf m) n)) && b) (full-count m long))
+
+-- ---- over flat links
+
+module _ (l : List System) (ps : List ℕ) (links : ps ≡ predsOf l) where
+  pub flat-used : (e : Enabled) (k : ℕ) → usedAt (memoryBy ps e) k ≡ usedAt (record { systems = l; enabled = e }) k
+  flat-used e k = ap (λ (t : Bool). ltb 0 k && t) (links-in-use l ps links e k)
+
+  pub flat-before : (k : ℕ) (equal : Bool) (q : ℕ) → beforeAt (linkedBy ps) k equal q ≡ beforeAt l k equal q
+  flat-before k equal q = ap (λ (t : Bool). ltb 0 k && (equal || t)) (links-on-chain l ps links k q)

@@ -37,7 +37,7 @@ module _ (st : State) (c : Change) (n : ℕ) (e : n ≡ first (changeLadder st (
   given-accepted z = ap (givenBy st c) (sym e) ∙ rw (eq-eqb n 0 z, givenBy)
 
 -- a ladder that gives 0: its first number does not apply, nor does any later one
-pub passed : (n : ℕ) (t : Bool) (rs : List Rung) → 0 < n → first ((n, t) ∷ rs) ≡ 0 → (t ≡ false) × (first rs ≡ 0)
+passed : (n : ℕ) (t : Bool) (rs : List Rung) → 0 < n → first ((n, t) ∷ rs) ≡ 0 → (t ≡ false) × (first rs ≡ 0)
 unfolding first
 passed n true rs h e = absurd (omega arith)
 passed n false rs h e = (refl, e)

@@ -1,4 +1,4 @@
 pub mod Given
 pub mod Rungs
 pub mod Subject
-pub mod Tests
+pub mod Conditions

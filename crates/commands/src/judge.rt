@@ -1,13 +1,13 @@
 // The number of each change of the systems: its conditions, and the first number that applies. A condition that the change does not know is false.
+use crate::conditions::locked;
+use crate::conditions::no_room;
+use crate::conditions::other_type;
+use crate::conditions::ties_of;
+use crate::conditions::used_in;
+use crate::conditions::wrong_pred;
 use crate::numbers::Rungs;
 use crate::numbers::first_number;
 use crate::subject::Subject;
-use crate::tests::locked;
-use crate::tests::no_room;
-use crate::tests::other_type;
-use crate::tests::ties_of;
-use crate::tests::used_in;
-use crate::tests::wrong_pred;
 use memory::kinds::group_of;
 use model::Kind;
 use model::Memory;

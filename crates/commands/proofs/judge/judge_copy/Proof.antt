@@ -7,7 +7,7 @@ use Rattle.model.specs.Refusals.{first, changeLadder}
 use Rattle.model.specs.Stored.{memoryOf}
 use Rattle.chains.proofs.Copies.{length-mapped}
 use Rattle.commands.proofs.Asked.{locked-is, other-is, used-is, before-is, full-is}
-use Rattle.commands.specs.Tests.{otherAt}
+use Rattle.commands.specs.Conditions.{otherAt}
 use Rattle.commands.proofs.judge.judge_copy.Statement.{statement}
 use Rattle.commands.proofs.judge.judge_copy.Tie as tie
 

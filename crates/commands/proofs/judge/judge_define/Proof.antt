@@ -6,7 +6,7 @@ use Rattle.model.specs.Refusals.{first, changeLadder}
 use Rattle.model.specs.Stored.{memoryOf}
 use Rattle.chains.proofs.Copies.{length-mapped}
 use Rattle.commands.proofs.Asked.{other-is, used-is, full-is}
-use Rattle.commands.specs.Tests.{lockedAt}
+use Rattle.commands.specs.Conditions.{lockedAt}
 use Rattle.commands.proofs.judge.judge_define.Statement.{statement}
 use Rattle.commands.proofs.judge.judge_define.Tie as tie
 

@@ -1,7 +1,7 @@
 use borrow.Author.Tests.{ne-eqb}
 use borrow.Author.Needs.{needs}
-use Rattle.commands.proofs.tests.wrong_pred.Statement.{statement}
-use Rattle.commands.proofs.tests.wrong_pred.Tie as tie
+use Rattle.commands.proofs.conditions.wrong_pred.Statement.{statement}
+use Rattle.commands.proofs.conditions.wrong_pred.Tie as tie
 
 order-of-requires : tie.Need-order-of-requires
 order-of-requires c κs = search needs

@@ -1,8 +1,8 @@
 use native.Mathlib.Omega.{arith}
 use borrow.Author.Tests.{lt-ltb}
 use borrow.Author.Needs.{needs}
-use Rattle.commands.proofs.tests.used.Statement.{statement}
-use Rattle.commands.proofs.tests.used.Tie as tie
+use Rattle.commands.proofs.conditions.used.Statement.{statement}
+use Rattle.commands.proofs.conditions.used.Tie as tie
 
 returns : tie.Need-returns
 returns c = rw (c .if1 .taken)

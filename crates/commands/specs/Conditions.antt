@@ -9,7 +9,7 @@ use Rattle.model.specs.Chain.{onChain}
 use Rattle.model.specs.Use.{inUse}
 use Rattle.commands.specs.declared.subject.Subject.{Subject}
 
--- [Error 9]
+-- [Error 9] level 0, and a group that needs level 1
 abbrev pub lockedAt : ℕ → Group → Bool
 lockedAt level g = eqb level 0 && ofGroup g .guarded
 

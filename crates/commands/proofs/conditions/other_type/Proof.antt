@@ -1,6 +1,6 @@
 use borrow.Author.Needs.{needs}
-use Rattle.commands.proofs.tests.other_type.Statement.{statement}
-use Rattle.commands.proofs.tests.other_type.Tie as tie
+use Rattle.commands.proofs.conditions.other_type.Statement.{statement}
+use Rattle.commands.proofs.conditions.other_type.Tie as tie
 
 code-of-requires : tie.Need-code-of-requires
 code-of-requires c κs = search needs

@@ -1,6 +1,6 @@
 use Rattle.commands.proofs.Asked.{new-place}
-use Rattle.commands.proofs.tests.no_room.Statement.{statement}
-use Rattle.commands.proofs.tests.no_room.Tie as tie
+use Rattle.commands.proofs.conditions.no_room.Statement.{statement}
+use Rattle.commands.proofs.conditions.no_room.Tie as tie
 
 returns : tie.Need-returns
 returns c = rw (new-place (c .args .place))

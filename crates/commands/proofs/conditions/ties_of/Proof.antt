@@ -4,8 +4,8 @@ use borrow.Author.Needs.{needs}
 use lib.ListN.{length, length-take}
 use Rattle.model.specs.Stored.{systemsOf}
 use Rattle.commands.proofs.Asked.{flat-used, flat-before}
-use Rattle.commands.proofs.tests.ties_of.Statement.{statement}
-use Rattle.commands.proofs.tests.ties_of.Tie as tie
+use Rattle.commands.proofs.conditions.ties_of.Statement.{statement}
+use Rattle.commands.proofs.conditions.ties_of.Tie as tie
 
 links-of-requires : tie.Need-links-of-requires
 links-of-requires c κs = search needs

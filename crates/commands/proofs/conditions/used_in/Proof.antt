@@ -4,8 +4,8 @@ use borrow.Author.Needs.{needs}
 use lib.ListN.{length, length-take}
 use Rattle.model.specs.Stored.{systemsOf}
 use Rattle.commands.proofs.Asked.{flat-used}
-use Rattle.commands.proofs.tests.used_in.Statement.{statement}
-use Rattle.commands.proofs.tests.used_in.Tie as tie
+use Rattle.commands.proofs.conditions.used_in.Statement.{statement}
+use Rattle.commands.proofs.conditions.used_in.Tie as tie
 
 links-of-requires : tie.Need-links-of-requires
 links-of-requires c κs = search needs

@@ -12,7 +12,7 @@ ghost use mathlib.Core.Path.{_≡_};
 ghost use Rattle.model.specs.Kinds.{ofGroup};
 ghost use Rattle.model.specs.Stored.{systemsOf, memoryOf};
 ghost use Rattle.chains.specs.Flat.{linkedBy, memoryBy};
-ghost use Rattle.commands.specs.Tests.{lockedAt, otherAt, wrongAt, usedAt, beforeAt, fullAt};
+ghost use Rattle.commands.specs.Conditions.{lockedAt, otherAt, wrongAt, usedAt, beforeAt, fullAt};
 
 fn guarded(g: Group) -> bool
     ensures { λ r. ⌜ r ≡ ofGroup g .guarded ⌝ }

@@ -1,6 +1,6 @@
 use borrow.Author.Needs.{needs}
-use Rattle.commands.proofs.tests.locked.Statement.{statement}
-use Rattle.commands.proofs.tests.locked.Tie as tie
+use Rattle.commands.proofs.conditions.locked.Statement.{statement}
+use Rattle.commands.proofs.conditions.locked.Tie as tie
 
 guarded-requires : tie.Need-guarded-requires
 guarded-requires c κs = search needs
