@@ -8,39 +8,30 @@ use Rattle.engine.proofs.line.carry_out.Reads as carry-out-reads
 use Rattle.request.proofs.printable.unreadable.Reads as unreadable-reads
 use Rattle.request.proofs.read.Reads as read-reads
 
--- src/line.rt:84:9
 refused-requires : tie.Need-refused-requires
 refused-requires c κs = search needs
 
--- src/line.rt:84:9
 returns : tie.Need-returns
 returns c = ?
 
--- src/line.rt:86:8
 unreadable-requires : tie.Need-unreadable-requires
 unreadable-requires c κs = search needs
 
--- src/line.rt:87:9
 refused-requires-2 : tie.Need-refused-requires-2
 refused-requires-2 c κs = search needs
 
--- src/line.rt:87:9
 returns-2 : tie.Need-returns-2
 returns-2 c = ?
 
--- src/line.rt:89:9
 read-requires : tie.Need-read-requires
 read-requires c κs = search needs
 
--- src/line.rt:90:5
 carry-out-requires : tie.Need-carry-out-requires
 carry-out-requires c κs = search needs
 
--- src/line.rt:79:1
 same-length : tie.Need-same-length
 same-length c = search needs
 
--- src/line.rt:79:1
 returns-3 : tie.Need-returns-3
 returns-3 c = ?
 

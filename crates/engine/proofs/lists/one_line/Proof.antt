@@ -1,3 +1,6 @@
+use mathlib.Core.Path.{_≡_}
+use Rattle.model.specs.Stored.{stateOf}
+use Rattle.engine.proofs.Listing.{ready, replied-answers}
 use borrow.Author.Needs.{needs}
 use Rattle.engine.proofs.lists.one_line.Statement.{statement}
 use Rattle.engine.proofs.lists.one_line.Tie as tie
@@ -6,21 +9,19 @@ use Rattle.engine.proofs.lists.one_line.Lts as lts
 use Rattle.engine.proofs.answer.replied.Reads as replied-reads
 use Rattle.reply.proofs.resultants.resultant_at.Reads as resultant-at-reads
 
--- src/lists.rt:75:9
 resultant-at-requires : tie.Need-resultant-at-requires
-resultant-at-requires c κs = ?
+resultant-at-requires c κs = (ready (c .args .s) (c .args .reply .now) (c .pre .0) (c .pre .1), c .pre .2)
 
--- src/lists.rt:76:5
 replied-requires : tie.Need-replied-requires
 replied-requires c κs = search needs
 
--- src/lists.rt:68:1
 same-length : tie.Need-same-length
 same-length c = search needs
 
--- src/lists.rt:68:1
 returns : tie.Need-returns
-returns c = ?
+returns c =
+    let a = c .before .before .args in
+    replied-answers (c .replied .result) (stateOf (a .s)) _ _ (a .reply .now) _ (c .replied .ensures) (c .before .resultant-at .ensures)
 
 pub one-line-spec : {M : Type 1} → statement M
 one-line-spec = tie.close (tie.spec resultant-at-requires replied-requires same-length returns)

@@ -7,51 +7,39 @@ use Rattle.engine.proofs.answer.refused.Reads as refused-reads
 use Rattle.engine.proofs.lists.one_line.Reads as one-line-reads
 use Rattle.memory.proofs.find.find.Reads as find-reads
 
--- src/lists.rt:86:9
 find-requires : tie.Need-find-requires
 find-requires c κs = search needs
 
--- src/lists.rt:88:21
 enum-known-found : tie.Need-enum-known-found
 enum-known-found c = search needs
 
--- src/lists.rt:88:31
 one-line-requires : tie.Need-one-line-requires
 one-line-requires c κs = ?
 
--- src/lists.rt:89:22
 enum-known-found-2 : tie.Need-enum-known-found-2
 enum-known-found-2 c = search needs
 
--- src/lists.rt:89:32
 one-line-requires-2 : tie.Need-one-line-requires-2
 one-line-requires-2 c κs = search needs
 
--- src/lists.rt:90:26
 enum-told : tie.Need-enum-told
 enum-told c = search needs
 
--- src/lists.rt:90:26
 refused-requires : tie.Need-refused-requires
 refused-requires c κs = search needs
 
--- src/lists.rt:80:1
 same-length : tie.Need-same-length
 same-length c = search needs
 
--- src/lists.rt:80:1
 returns : tie.Need-returns
 returns c = ?
 
--- src/lists.rt:80:1
 same-length-2 : tie.Need-same-length-2
 same-length-2 c = search needs
 
--- src/lists.rt:80:1
 returns-2 : tie.Need-returns-2
 returns-2 c = ?
 
--- src/lists.rt:80:1
 returns-3 : tie.Need-returns-3
 returns-3 c = ?
 

@@ -1,3 +1,7 @@
+use mathlib.Core.Path.{_≡_, sym, ap, _∙_}
+use Rattle.model.specs.Stored.{ofOutcome, stateOf}
+use Rattle.engine.proofs.Steps.{obeyed-resultants}
+use Rattle.engine.proofs.Listing.{ready, replied-answers}
 use borrow.Author.Needs.{needs}
 use Rattle.engine.proofs.lists.resultants_line.Statement.{statement}
 use Rattle.engine.proofs.lists.resultants_line.Tie as tie
@@ -6,21 +10,20 @@ use Rattle.engine.proofs.lists.resultants_line.Lts as lts
 use Rattle.engine.proofs.answer.replied.Reads as replied-reads
 use Rattle.reply.proofs.resultants.resultants.Reads as resultants-reads
 
--- src/lists.rt:63:9
 resultants-requires : tie.Need-resultants-requires
-resultants-requires c κs = ?
+resultants-requires c κs = ready (c .args .s) (c .args .reply .now) (c .pre .0) (c .pre .1)
 
--- src/lists.rt:64:5
 replied-requires : tie.Need-replied-requires
 replied-requires c κs = search needs
 
--- src/lists.rt:57:1
 same-length : tie.Need-same-length
 same-length c = search needs
 
--- src/lists.rt:57:1
 returns : tie.Need-returns
-returns c = ?
+returns c =
+    let a = c .before .before .args in
+    replied-answers (c .replied .result) (stateOf (a .s)) _ _ (a .reply .now) _ (c .replied .ensures) (c .before .resultants .ensures)
+    ∙ ap ofOutcome (sym (obeyed-resultants (stateOf (a .s)) (a .reply .now)))
 
 pub resultants-line-spec : {M : Type 1} → statement M
 resultants-line-spec =

@@ -1,3 +1,7 @@
+use mathlib.Core.Path.{_≡_, sym, ap, _∙_}
+use Rattle.model.specs.Stored.{ofOutcome, stateOf}
+use Rattle.engine.proofs.Steps.{obeyed-systems}
+use Rattle.engine.proofs.Listing.{ready, replied-answers}
 use borrow.Author.Needs.{needs}
 use Rattle.engine.proofs.lists.systems_line.Statement.{statement}
 use Rattle.engine.proofs.lists.systems_line.Tie as tie
@@ -6,21 +10,20 @@ use Rattle.engine.proofs.lists.systems_line.Lts as lts
 use Rattle.engine.proofs.answer.replied.Reads as replied-reads
 use Rattle.reply.proofs.systems.Reads as systems-reads
 
--- src/lists.rt:41:9
 systems-requires : tie.Need-systems-requires
-systems-requires c κs = ?
+systems-requires c κs = ready (c .args .s) (c .args .reply .now) (c .pre .0) (c .pre .1)
 
--- src/lists.rt:42:5
 replied-requires : tie.Need-replied-requires
 replied-requires c κs = search needs
 
--- src/lists.rt:35:1
 same-length : tie.Need-same-length
 same-length c = search needs
 
--- src/lists.rt:35:1
 returns : tie.Need-returns
-returns c = ?
+returns c =
+    let a = c .before .before .args in
+    replied-answers (c .replied .result) (stateOf (a .s)) _ _ (a .reply .now) _ (c .replied .ensures) (c .before .systems .ensures)
+    ∙ ap ofOutcome (sym (obeyed-systems (stateOf (a .s)) (a .reply .now)))
 
 pub systems-line-spec : {M : Type 1} → statement M
 systems-line-spec = tie.close (tie.spec systems-requires replied-requires same-length returns)

@@ -1,0 +1,42 @@
+-- KLT? with a name: absent, or the line of the system that is found.
+use Prim.Native.Nat.{ℕ, zero, suc, _≤_}
+use mathlib.Core.Path.{_≡_, refl, sym, ap, _∙_}
+use mathlib.Core.List.{List, [], _∷_, map}
+use mathlib.Core.Option.{none, some}
+use mathlib.Core.Bool.{true, false}
+use native.Mathlib.Omega.{arith}
+use lib.ListN.{length, take, length-take, length-map}
+use Rattle.model.specs.declared.Memory.{Memory as StoredMemory}
+use Rattle.model.specs.declared.Group.the-variants.{Operating}
+use Rattle.model.specs.Lists.{there?}
+use Rattle.model.specs.Memory.{System, State, Ref, find, refOr, userRef, systemAt, placeNamed}
+use Rattle.model.specs.Request.{asks, list, resultantOf}
+use Rattle.model.specs.Refusals.{first, readingLadder, requestLadder, queryLadder}
+use Rattle.model.specs.Effects.{withError, next}
+use Rattle.model.specs.Reply.{listed, listing, resultantLine, reply}
+use Rattle.model.specs.Machine.{carriedOut, answered, refused}
+use Rattle.model.specs.Stored.{systemOf, systemsOf}
+use Rattle.model.proofs.Named.{place-within}
+use Rattle.reply.specs.Reached.{refAt}
+use Rattle.engine.specs.Obeyed.{decided, obeyed}
+
+module _ (st : State) (a b : List ℕ) where
+  pub obeyed-absent : find (st .volatile) a ≡ none → obeyed st (asks (list (resultantOf a))) b ≡ refused (withError st 7) 7 b
+  unfolding obeyed decided first readingLadder requestLadder queryLadder there?
+  obeyed-absent e = rw e
+
+  pub obeyed-found : (r : Ref) → find (st .volatile) a ≡ some r →
+      obeyed st (asks (list (resultantOf a))) b ≡ answered st (listing (resultantLine (st .volatile .systems) r ∷ [])) b
+  unfolding obeyed decided first readingLadder requestLadder queryLadder there? carriedOut next reply listed refOr
+  obeyed-found r e = rw e
+
+-- a user system's line is found by its place
+pub ref-by-place : (l : List System) (k : ℕ) → refAt l Operating k ≡ userRef l k
+unfolding systemAt
+ref-by-place l zero = refl
+ref-by-place l (suc k) = refl
+
+-- a place by name is one of the stored ones
+pub named-within : (m : StoredMemory) (n : List ℕ) → placeNamed (systemsOf m) n ≤ m .count
+named-within m n =
+    omega (arith, place-within (systemsOf m) n, length-map (take (m .count) (m .systems)) systemOf, length-take (m .count) (m .systems))
