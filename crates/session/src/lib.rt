@@ -1,0 +1,1 @@
+// A session: input in blocks, lines out of it, answers into a lent buffer.
