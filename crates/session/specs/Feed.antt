@@ -1,6 +1,7 @@
 -- Document 01, "ksrun", for input that comes in blocks: what is held between two blocks, and what a block prints.
 -- proofs/Whole.antt ties it to the whole output for the whole input.
-use Prim.Native.Nat.{ℕ, suc}
+use Prim.Native.Nat.{ℕ, suc, _≤_}
+use mathlib.Core.Path.{_≡_}
 use mathlib.Core.List.{List, [], _∷_, _++_}
 use mathlib.Core.Bool.{true, false}
 use lib.Dec.{eqb}
@@ -10,6 +11,7 @@ use Rattle.model.specs.Limits.{bufferLimit, lineLimit}
 use Rattle.model.specs.Memory.{State}
 use Rattle.model.specs.Machine.{Outcome, stepped}
 use Rattle.model.specs.Trace.{printed}
+use Rattle.session.specs.declared.cut.Kept.{Kept}
 
 -- a line is carried out with a lent buffer of the least length that serves every reply
 unfoldable pub lent : List ℕ
@@ -50,6 +52,18 @@ fed st l (b ∷ bs) =
       | true ↦ printing (said st l) (fed (outcome st l .state) [] bs)
       | false ↦ fed st (grown l b) bs
     ]
+
+-- ---- what the code cuts
+
+-- how many bytes stand before the first LF
+unfoldable pub before : List ℕ → ℕ
+before [] = 0
+before (b ∷ bs) = elim (eqb b 10) [ true ↦ 0 | false ↦ suc (before bs) ]
+
+-- the stored bytes are so much of a line as is enough
+pub record Keeps (line : List ℕ) (k : Kept) : Type 0 where
+  pub bytes : take (k .count) (k .bytes) ≡ take enough line
+  pub count : k .count ≤ enough
 
 -- at the end of the input: bytes after the last LF, if any, are one more line
 unfoldable pub ended : Held → List ℕ

@@ -1,1 +1,2 @@
-// A session: input in blocks, lines out of it, answers into a lent buffer.
+// A session of ksrun: input comes in blocks, lines are cut out of it, and their answers go into a lent buffer.
+mod cut;

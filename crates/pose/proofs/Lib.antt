@@ -1,0 +1,6 @@
+pub mod Signed
+pub mod Upto
+pub mod Turning
+pub mod Bounds
+pub mod Naming
+pub mod Laws

@@ -1,0 +1,29 @@
+-- `pose::rotation::turn` meets its contract: each coordinate is read back as `coord_of` gave it.
+use mathlib.Core.Path.{_∙_}
+use borrow.Author.Needs.{needs}
+use Rattle.pose.proofs.Signed.{result-reads}
+use Rattle.pose.proofs.rotation.turn.Statement.{statement}
+use Rattle.pose.proofs.rotation.turn.Tie as tie
+
+coord-of-requires : tie.Need-coord-of-requires
+coord-of-requires c κs = search needs
+
+coord-of-requires-2 : tie.Need-coord-of-requires-2
+coord-of-requires-2 c κs = search needs
+
+coord-of-requires-3 : tie.Need-coord-of-requires-3
+coord-of-requires-3 c κs = search needs
+
+returns : tie.Need-returns
+returns c =
+    let c2 = c .before in
+    let c1 = c2 .before in
+    λ i.
+    record {
+      x = (result-reads (c1 .coord-of .result) (c1 .coord-of .ok) ∙ c1 .coord-of .ensures) i;
+      y = (result-reads (c2 .coord-of2 .result) (c2 .coord-of2 .ok) ∙ c2 .coord-of2 .ensures) i;
+      z = (result-reads (c .coord-of3 .result) (c .coord-of3 .ok) ∙ c .coord-of3 .ensures) i;
+    }
+
+pub turn-spec : {M : Type 1} → statement M
+turn-spec = tie.close (tie.spec coord-of-requires coord-of-requires-2 coord-of-requires-3 returns)

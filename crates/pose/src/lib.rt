@@ -1,0 +1,73 @@
+// A pose: where a system stands and how it is turned; and following one pose on from another.
+ghost use mathlib.Core.Path.{_≡_};
+ghost use Rattle.model.specs.Pose.{plus, rotOf, origin, followed};
+ghost use Rattle.pose.specs.Poses.{poseOf, Within, reach};
+use model::Dir;
+use model::Rot;
+use model::Turns;
+use model::Vec3;
+
+pub mod rotation;
+mod tables;
+
+pub struct Pose {
+    pub at: Vec3,
+    pub rot: Rot,
+}
+
+pub fn sum(p: Vec3, q: Vec3) -> Vec3
+    requires { ⌜ Within reach p ⌝ }
+    requires { ⌜ Within reach q ⌝ }
+    ensures { λ r. ⌜ r ≡ plus p q ⌝ }
+{
+    Vec3 {
+        x: p.x + q.x,
+        y: p.y + q.y,
+        z: p.z + q.z,
+    }
+}
+
+impl Pose {
+    // The pose that changes nothing.
+    pub const NEUTRAL: Pose = Pose {
+        at: Vec3 { x: 0, y: 0, z: 0 },
+        rot: Rot {
+            a: Dir::Px,
+            b: Dir::Py,
+            c: Dir::Pz,
+        },
+    };
+
+    // These turns, with no offset.
+    pub fn of_turns(turns: Turns) -> Pose
+        ensures { λ r. ⌜ poseOf r ≡ record { at = origin; rot = rotOf turns } ⌝ }
+    {
+        let neutral = Pose::NEUTRAL;
+        let at = neutral.at;
+        Pose::of(at, turns)
+    }
+
+    // A system's own pose.
+    pub fn of(offset: Vec3, turns: Turns) -> Pose
+        ensures { λ r. ⌜ poseOf r ≡ record { at = offset; rot = rotOf turns } ⌝ }
+    {
+        let rot = rotation::named(turns);
+        Pose { at: offset, rot }
+    }
+
+    // The predecessor's pose, and a system's own pose followed on from it.
+    pub fn follow(self, own: Pose) -> Pose
+        requires { ⌜ Within reach (self .at) ⌝ }
+        requires { ⌜ Within reach (own .at) ⌝ }
+        ensures { λ r. ⌜ poseOf r ≡ followed (poseOf self) (poseOf own) ⌝ }
+    {
+        let p = self.at;
+        let r = self.rot;
+        let t = own.at;
+        let s = own.rot;
+        let turned = rotation::turn(r, t);
+        let at = sum(p, turned);
+        let rot = rotation::compose(r, s);
+        Pose { at, rot }
+    }
+}
