@@ -1,2 +1,3 @@
 pub mod Buffer
 pub mod Whole
+pub mod Cutting

@@ -14,6 +14,7 @@ use Rattle.model.specs.Memory.{State}
 use Rattle.model.specs.Machine.{Outcome, stepped, startFactory}
 use Rattle.model.specs.Trace.{printed, session, inputLines, ksrun}
 use Rattle.session.specs.Feed.{lent, Held, Fed, fed, ended, said, outcome, grown, enough, holding, printing}
+use Rattle.session.proofs.Cutting.{append-nil}
 use Rattle.session.proofs.Buffer.{Seen, seen, any-buffer, clipped, stays-long}
 
 -- ---- one byte
@@ -43,10 +44,6 @@ take-grows : (n : ℕ) (p : List ℕ) (b : ℕ) → take n (take n p ++ (b ∷ [
 take-grows zero p b = refl
 take-grows (suc n) [] b = refl
 take-grows (suc n) (x ∷ p) b = ap (λ (t : List ℕ). x ∷ t) (take-grows n p b)
-
-append-nil : (l : List ℕ) → l ++ [] ≡ l
-append-nil [] = refl
-append-nil (x ∷ l) = ap (λ (t : List ℕ). x ∷ t) (append-nil l)
 
 -- ---- the buffer that is lent again
 
