@@ -19,11 +19,11 @@ use Rattle.session.proofs.Buffer.{Seen, seen, any-buffer, clipped, stay
 
 -- ---- one byte
 
-fed-ends : (st : State) (l : List ℕ) (b : ℕ) (bs : List ℕ) → eqb b 10 ≡ true → fed st l (b ∷ bs) ≡ printing (said st l) (fed (outcome st l .state) [] bs)
+pub fed-ends : (st : State) (l : List ℕ) (b : ℕ) (bs : List ℕ) → eqb b 10 ≡ true → fed st l (b ∷ bs) ≡ printing (said st l) (fed (outcome st l .state) [] bs)
 unfolding fed
 fed-ends st l b bs h = rw (h, fed)
 
-fed-grows : (st : State) (l : List ℕ) (b : ℕ) (bs : List ℕ) → eqb b 10 ≡ false → fed st l (b ∷ bs) ≡ fed st (grown l b) bs
+pub fed-grows : (st : State) (l : List ℕ) (b : ℕ) (bs : List ℕ) → eqb b 10 ≡ false → fed st l (b ∷ bs) ≡ fed st (grown l b) bs
 unfolding fed
 fed-grows st l b bs h = rw (h, fed)
 
@@ -40,7 +40,7 @@ fed-append (b ∷ bs) st l ys =
 
 -- ---- lists
 
-take-grows : (n : ℕ) (p : List ℕ) (b : ℕ) → take n (take n p ++ (b ∷ [])) ≡ take n (p ++ (b ∷ []))
+pub take-grows : (n : ℕ) (p : List ℕ) (b : ℕ) → take n (take n p ++ (b ∷ [])) ≡ take n (p ++ (b ∷ []))
 take-grows zero p b = refl
 take-grows (suc n) [] b = refl
 take-grows (suc n) (x ∷ p) b = ap (λ (t : List ℕ). x ∷ t) (take-grows n p b)
