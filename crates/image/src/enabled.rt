@@ -13,7 +13,7 @@ ghost use mathlib.Core.Bool.{false};
 ghost use lib.ListN.{length, getD, drop};
 ghost use Rattle.model.specs.Image.{enabledBytes};
 ghost use Rattle.image.specs.Put.{Put};
-ghost use Rattle.image.specs.Strict.{enabledFrom, strictEnabled};
+ghost use Rattle.image.specs.Strict.{mostByte, enabledFrom, strictEnabled};
 ghost use Rattle.image.specs.Views.{enabledRead};
 
 // What is enabled, and the place after it.
@@ -41,7 +41,7 @@ fn no_enabled() -> EnabledRead
 
 // The number before the operating part says whether it is a pair.
 fn enabled_from(pair: u64, v: [u64; 4]) -> Enabled
-    requires { ⌜ (pair ≤ 1) × ((i : ℕ) → i < 3 + pair → getD v i 0 ≤ 255) ⌝ }
+    requires { ⌜ (pair ≤ 1) × ((i : ℕ) → i < 3 + pair → getD v i 0 ≤ mostByte) ⌝ }
     ensures { λ r. ⌜ r ≡ enabledFrom pair v ⌝ }
 {
     if pair == 0 {

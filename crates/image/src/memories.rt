@@ -15,6 +15,7 @@ ghost use mathlib.Core.Path.{_≡_};
 ghost use mathlib.Core.Bool.{true, false};
 ghost use mathlib.Core.List.{map};
 ghost use lib.ListN.{length, take, drop};
+ghost use Rattle.model.specs.Limits.{maxSystems, bufferLimit};
 ghost use Rattle.model.specs.Lists.{all, joined};
 ghost use Rattle.model.specs.WellFormed.{memoryFine};
 ghost use Rattle.model.specs.Image.{systemBytes, image};
@@ -34,7 +35,7 @@ pub struct SystemsRead {
 }
 
 fn read_systems(bytes: &[u8], at: usize, count: usize) -> SystemsRead
-    requires { ⌜ count ≤ 16 ⌝ }
+    requires { ⌜ count ≤ maxSystems ⌝ }
     ensures { λ r. ⌜ systemsRead (now (bytes .entry)) count r ≡ strictSystems count (drop at (now (bytes .entry))) ⌝ }
     ensures { λ r. ⌜ (r .ok ≡ true → all nameShaped (take count (r .systems)) ≡ true) ⌝ }
 {
@@ -136,7 +137,7 @@ fn write_systems(out: &mut [u8], at: usize, m: Memory) -> usize
 
 // Writes the image of a memory from the start of the buffer; its length.
 pub fn write_memory(m: Memory, out: &mut [u8]) -> usize
-    requires { ⌜ (memoryShaped m ≡ true) × (memoryFine (memoryOf m) ≡ true) × (4096 ≤ length (now out)) ⌝ }
+    requires { ⌜ (memoryShaped m ≡ true) × (memoryFine (memoryOf m) ≡ true) × (bufferLimit ≤ length (now out)) ⌝ }
     ensures { λ r. ⌜ Put (image (memoryOf m)) 0 (now (out .entry)) (now (out .exit)) r ⌝ }
 {
     let head = [EDITION, m.count as u64, 0, 0];

@@ -4,6 +4,7 @@ ghost use Prim.Native.Nat.{_+_, _-_, _≤_};
 ghost use mathlib.Core.Path.{_≡_};
 ghost use mathlib.Core.Bool.{false};
 ghost use lib.ListN.{length, take, drop};
+ghost use Rattle.model.specs.Limits.{nameLimit};
 ghost use Rattle.model.specs.Stored.{bytesOf};
 ghost use Rattle.image.specs.Put.{Put};
 ghost use Rattle.image.specs.Strict.{strictName};
@@ -24,7 +25,7 @@ fn left_from(len: usize, at: usize) -> usize
 }
 
 fn copied(bytes: &[u8], at: usize, n: usize) -> [u8; 16]
-    requires { ⌜ (n ≤ 16) × (n ≤ length (now bytes) - at) ⌝ }
+    requires { ⌜ (n ≤ nameLimit) × (n ≤ length (now bytes) - at) ⌝ }
     ensures { λ r. ⌜ take n r ≡ take n (drop at (now (bytes .entry))) ⌝ }
 {
     let mut name = [0u8; 16];
@@ -37,7 +38,7 @@ fn copied(bytes: &[u8], at: usize, n: usize) -> [u8; 16]
 }
 
 fn no_name() -> NameRead
-    ensures { λ r. ⌜ (r .ok ≡ false) × (r .name .len ≤ 16) ⌝ }
+    ensures { λ r. ⌜ (r .ok ≡ false) × (r .name .len ≤ nameLimit) ⌝ }
 {
     let name = Name {
         bytes: [0u8; 16],
@@ -52,7 +53,7 @@ fn no_name() -> NameRead
 
 // A name of that length at a place.
 pub fn read_name(bytes: &[u8], at: usize, len: u64) -> NameRead
-    ensures { λ r. ⌜ (nameRead (now (bytes .entry)) r ≡ strictName len (drop at (now (bytes .entry)))) × (r .name .len ≤ 16) ⌝ }
+    ensures { λ r. ⌜ (nameRead (now (bytes .entry)) r ≡ strictName len (drop at (now (bytes .entry)))) × (r .name .len ≤ nameLimit) ⌝ }
 {
     if 16 < len {
         return no_name();
@@ -75,7 +76,7 @@ pub fn read_name(bytes: &[u8], at: usize, len: u64) -> NameRead
 
 // Writes a name's bytes from out[at] on; the place after them.
 pub fn write_name(out: &mut [u8], at: usize, name: Name) -> usize
-    requires { ⌜ (name .len ≤ 16) × (at + name .len ≤ length (now out)) ⌝ }
+    requires { ⌜ (name .len ≤ nameLimit) × (at + name .len ≤ length (now out)) ⌝ }
     ensures { λ r. ⌜ Put (bytesOf name) at (now (out .entry)) (now (out .exit)) r ⌝ }
 {
     let bytes = name.bytes;

@@ -20,11 +20,12 @@ ghost use mathlib.Core.Bool.{true, false};
 ghost use mathlib.Core.List.{[], _∷_};
 ghost use lib.IntN.{natAbs};
 ghost use lib.ListN.{length, getD, take, drop};
+ghost use Rattle.model.specs.Limits.{nameLimit};
 ghost use Rattle.model.specs.Kinds.{ofKind};
 ghost use Rattle.model.specs.Image.{systemBytes, signedCode};
 ghost use Rattle.model.specs.Stored.{bytesOf, systemOf, nameShaped};
 ghost use Rattle.image.specs.Put.{Put};
-ghost use Rattle.image.specs.Strict.{offsetFrom, turnsFrom, strictPlaced, strictSystem};
+ghost use Rattle.image.specs.Strict.{mostByte, offsetFrom, turnsFrom, strictPlaced, strictSystem};
 ghost use Rattle.image.specs.Views.{systemRead};
 
 // The most that a byte of the memory holds, and that an offset is coded as.
@@ -62,7 +63,7 @@ fn offset_from(o: [u64; 4]) -> Vec3
 }
 
 fn turns_from(t: [u64; 4]) -> Turns
-    requires { ⌜ (getD t 0 0 ≤ 255) × (getD t 1 0 ≤ 255) × (getD t 2 0 ≤ 255) ⌝ }
+    requires { ⌜ (getD t 0 0 ≤ mostByte) × (getD t 1 0 ≤ mostByte) × (getD t 2 0 ≤ mostByte) ⌝ }
     ensures { λ r. ⌜ r ≡ turnsFrom t ⌝ }
 {
     Turns {
@@ -74,7 +75,7 @@ fn turns_from(t: [u64; 4]) -> Turns
 
 // What comes after the name: offsets, turns, predecessor place.
 fn read_placed(bytes: &[u8], at: usize, kind: Kind, name: Name) -> SystemRead
-    requires { ⌜ name .len ≤ 16 ⌝ }
+    requires { ⌜ name .len ≤ nameLimit ⌝ }
     ensures { λ r. ⌜ (systemRead (now (bytes .entry)) r ≡ strictPlaced kind (bytesOf name) (drop at (now (bytes .entry)))) × (nameShaped (r .system) ≡ true) ⌝ }
 {
     let offsets = read_numbers(bytes, at, 3, MOST_OFFSET);
