@@ -1,13 +1,13 @@
 -- What a block of input does to a session that is stored: the definitions of Feed.antt, with the lent buffer.
 use Prim.Native.Nat.{ℕ, _≤_, _<_}
 use mathlib.Core.Path.{_≡_}
-use mathlib.Core.List.{List}
+use mathlib.Core.List.{List, []}
 use lib.ListN.{length, take}
 use Rattle.model.specs.declared.State.{State as StoredState}
-use Rattle.model.specs.Machine.{written}
+use Rattle.model.specs.Machine.{startFactory, written}
 use Rattle.model.specs.Stored.{stateOf}
 use Rattle.engine.specs.Fine.{Fine}
-use Rattle.session.specs.Feed.{fed, ended, said, outcome, enough, holding, Held} 
+use Rattle.session.specs.Feed.{fed, ended, said, outcome, enough, holding, Held}
 use Rattle.session.specs.declared.feed.Session.{Session}
 use Rattle.session.specs.declared.feed.Fed.{Fed as StoredFed}
 use Rattle.session.specs.declared.feed.Answer.{Answer}
@@ -15,6 +15,12 @@ use Rattle.session.specs.declared.feed.Answer.{Answer}
 -- what a session holds
 abbrev pub heldOf : Session → Held
 heldOf s = holding (stateOf (s .state)) (take (s .held .count) (s .held .bytes))
+
+-- a session that begins
+pub record Begins (s : Session) : Type 0 where
+  pub held : heldOf s ≡ holding startFactory []
+  pub few : s .held .count ≤ enough
+  pub fine : Fine (s .state)
 
 -- a text was written from byte 0 on, and later bytes are as before
 pub record Puts (text before after : List ℕ) (count : ℕ) : Type 0 where

@@ -15,7 +15,7 @@ ghost use lib.ListN.{length, take};
 ghost use Rattle.model.specs.Limits.{bufferLimit};
 ghost use Rattle.engine.specs.Fine.{Fine};
 ghost use Rattle.session.specs.Feed.{enough};
-ghost use Rattle.session.specs.Blocks.{Answers, Feeds, Ends};
+ghost use Rattle.session.specs.Blocks.{Begins, Answers, Feeds, Ends};
 
 // Between two blocks: the state, and the bytes of a line that no block has ended yet.
 pub struct Session {
@@ -45,6 +45,15 @@ fn nothing_held() -> Kept
         bytes: [0u8; 121],
         count: 0,
     }
+}
+
+// A session begins at the factory, with nothing held.
+pub fn begin() -> Session
+    ensures { λ r. ⌜ Begins r ⌝ }
+{
+    let state = machine::start_factory();
+    let held = nothing_held();
+    Session { state, held }
 }
 
 // The reply as it is, or E and the number.

@@ -1,3 +1,8 @@
+-- `carry_out`: each case of the request is the definition's.
+use mathlib.Core.Path.{_≡_, sym, ap, _∙_}
+use Rattle.model.specs.Stored.{ofOutcome}
+use Rattle.engine.proofs.Steps.{obeyed-unknown, obeyed-malformed, obeyed-beyond}
+use Rattle.engine.proofs.Listing.{change-answers}
 use borrow.Author.Needs.{needs}
 use Rattle.engine.proofs.line.carry_out.Statement.{statement}
 use Rattle.engine.proofs.line.carry_out.Tie as tie
@@ -46,7 +51,7 @@ define-requires : tie.Need-define-requires
 define-requires c κs = search needs
 
 changed-requires : tie.Need-changed-requires
-changed-requires c κs = ?
+changed-requires c κs = c .define .ensures .1 (c .before .before .before .before .before .before .before .before .before .pre .0 .shape) (c .before .before .before .before .before .before .before .before .before .pre .1 .0 .first)
 
 enum-told-4 : tie.Need-enum-told-4
 enum-told-4 c = search needs
@@ -55,7 +60,7 @@ link-requires : tie.Need-link-requires
 link-requires c κs = search needs
 
 changed-requires-2 : tie.Need-changed-requires-2
-changed-requires-2 c κs = ?
+changed-requires-2 c κs = c .link .ensures .1 (c .before .before .before .before .before .before .before .before .pre .0 .shape)
 
 enum-told-5 : tie.Need-enum-told-5
 enum-told-5 c = search needs
@@ -64,7 +69,7 @@ copy-requires : tie.Need-copy-requires
 copy-requires c κs = search needs
 
 changed-requires-3 : tie.Need-changed-requires-3
-changed-requires-3 c κs = ?
+changed-requires-3 c κs = c .copy .ensures .1 (c .before .before .before .before .before .before .before .before .pre .0 .shape) (c .before .before .before .before .before .before .before .before .pre .1 .0 .second)
 
 enum-told-6 : tie.Need-enum-told-6
 enum-told-6 c = search needs
@@ -73,7 +78,7 @@ remove-requires : tie.Need-remove-requires
 remove-requires c κs = search needs
 
 changed-requires-4 : tie.Need-changed-requires-4
-changed-requires-4 c κs = ?
+changed-requires-4 c κs = c .remove .ensures .1 (c .before .before .before .before .before .before .before .before .pre .0 .shape)
 
 enum-told-7 : tie.Need-enum-told-7
 enum-told-7 c = search needs
@@ -82,7 +87,7 @@ enable-requires : tie.Need-enable-requires
 enable-requires c κs = search needs
 
 changed-requires-5 : tie.Need-changed-requires-5
-changed-requires-5 c κs = ?
+changed-requires-5 c κs = c .enable .ensures .1 (c .before .before .before .before .before .before .before .before .pre .0 .shape)
 
 enum-known-asked-2 : tie.Need-enum-known-asked-2
 enum-known-asked-2 c = search needs
@@ -91,7 +96,7 @@ set-level-requires : tie.Need-set-level-requires
 set-level-requires c κs = search needs
 
 changed-requires-6 : tie.Need-changed-requires-6
-changed-requires-6 c κs = ?
+changed-requires-6 c κs = c .set-level .ensures .1 (c .before .before .before .before .before .before .before .before .before .pre .0 .shape)
 
 enum-told-8 : tie.Need-enum-told-8
 enum-told-8 c = search needs
@@ -100,7 +105,7 @@ save-requires : tie.Need-save-requires
 save-requires c κs = search needs
 
 changed-requires-7 : tie.Need-changed-requires-7
-changed-requires-7 c κs = ?
+changed-requires-7 c κs = c .save .ensures .1 (c .before .before .before .before .before .before .before .before .pre .0 .shape)
 
 enum-told-9 : tie.Need-enum-told-9
 enum-told-9 c = search needs
@@ -109,7 +114,7 @@ restore-requires : tie.Need-restore-requires
 restore-requires c κs = search needs
 
 changed-requires-8 : tie.Need-changed-requires-8
-changed-requires-8 c κs = ?
+changed-requires-8 c κs = c .restore .ensures .1 (c .before .before .before .before .before .before .before .before .pre .0 .shape)
 
 enum-told-10 : tie.Need-enum-told-10
 enum-told-10 c = search needs
@@ -118,7 +123,7 @@ reset-requires : tie.Need-reset-requires
 reset-requires c κs = search needs
 
 changed-requires-9 : tie.Need-changed-requires-9
-changed-requires-9 c κs = ?
+changed-requires-9 c κs = c .reset .ensures .1 (c .before .before .before .before .before .before .before .before .pre .0 .shape)
 
 enum-told-11 : tie.Need-enum-told-11
 enum-told-11 c = search needs
@@ -157,76 +162,76 @@ error-line-requires : tie.Need-error-line-requires
 error-line-requires c κs = search needs
 
 returns : tie.Need-returns
-returns c = ?
+returns c = rw (c .before .enum-told .given .1) (c .refused .ensures _ ∙ ap ofOutcome (sym (obeyed-unknown _ _)))
 
 returns-2 : tie.Need-returns-2
-returns-2 c = ?
+returns-2 c = rw (c .before .enum-told2 .given .1) (c .refused2 .ensures _ ∙ ap ofOutcome (sym (obeyed-malformed _ _)))
 
 returns-3 : tie.Need-returns-3
-returns-3 c = ?
+returns-3 c = rw (c .before .enum-told3 .given .1) (c .refused3 .ensures _ ∙ ap ofOutcome (sym (obeyed-beyond _ _)))
 
 returns-4 : tie.Need-returns-4
-returns-4 c = ?
+returns-4 c = rw (c .before .before .before .asked .given .1) (change-answers _ _ _ _ _ (c .changed .ensures) (c .before .define .ensures .0))
 
 returns-5 : tie.Need-returns-5
-returns-5 c = ?
+returns-5 c = rw (c .before .before .enum-told4 .given .1) (change-answers _ _ _ _ _ (c .changed2 .ensures) (c .before .link .ensures .0))
 
 returns-6 : tie.Need-returns-6
-returns-6 c = ?
+returns-6 c = rw (c .before .before .enum-told5 .given .1) (change-answers _ _ _ _ _ (c .changed3 .ensures) (c .before .copy .ensures .0))
 
 returns-7 : tie.Need-returns-7
-returns-7 c = ?
+returns-7 c = rw (c .before .before .enum-told6 .given .1) (change-answers _ _ _ _ _ (c .changed4 .ensures) (c .before .remove .ensures .0))
 
 returns-8 : tie.Need-returns-8
-returns-8 c = ?
+returns-8 c = rw (c .before .before .enum-told7 .given .1) (change-answers _ _ _ _ _ (c .changed5 .ensures) (c .before .enable .ensures .0))
 
 returns-9 : tie.Need-returns-9
-returns-9 c = ?
+returns-9 c = rw (c .before .before .before .asked2 .given .1) (change-answers _ _ _ _ _ (c .changed6 .ensures) (c .before .set-level .ensures .0))
 
 returns-10 : tie.Need-returns-10
-returns-10 c = ?
+returns-10 c = rw (c .before .before .enum-told8 .given .1) (change-answers _ _ _ _ _ (c .changed7 .ensures) (c .before .save .ensures .0))
 
 returns-11 : tie.Need-returns-11
-returns-11 c = ?
+returns-11 c = rw (c .before .before .enum-told9 .given .1) (change-answers _ _ _ _ _ (c .changed8 .ensures) (c .before .restore .ensures .0))
 
 returns-12 : tie.Need-returns-12
-returns-12 c = ?
+returns-12 c = rw (c .before .before .enum-told10 .given .1) (change-answers _ _ _ _ _ (c .changed9 .ensures) (c .before .reset .ensures .0))
 
 same-length : tie.Need-same-length
 same-length c = search needs
 
 returns-13 : tie.Need-returns-13
-returns-13 c = ?
+returns-13 c = rw (c .before .before .before .before .enum-told11 .given .1) (c .before .before .enabled-line .ensures)
 
 same-length-2 : tie.Need-same-length-2
 same-length-2 c = search needs
 
 returns-14 : tie.Need-returns-14
-returns-14 c = ?
+returns-14 c = rw (c .before .before .before .before .enum-told12 .given .1) (c .before .before .systems-line .ensures)
 
 same-length-3 : tie.Need-same-length-3
 same-length-3 c = search needs
 
 returns-15 : tie.Need-returns-15
-returns-15 c = ?
+returns-15 c = rw (c .before .before .before .before .enum-told13 .given .1) (c .before .before .links-line .ensures)
 
 same-length-4 : tie.Need-same-length-4
 same-length-4 c = search needs
 
 returns-16 : tie.Need-returns-16
-returns-16 c = ?
+returns-16 c = rw (c .before .before .before .before .enum-told14 .given .1) (c .before .before .resultants-line .ensures)
 
 same-length-5 : tie.Need-same-length-5
 same-length-5 c = search needs
 
 returns-17 : tie.Need-returns-17
-returns-17 c = ?
+returns-17 c = rw (c .before .before .before .before .enum-told15 .given .1) (c .before .before .resultant-line .ensures)
 
 same-length-6 : tie.Need-same-length-6
 same-length-6 c = search needs
 
 returns-18 : tie.Need-returns-18
-returns-18 c = ?
+returns-18 c = rw (c .before .before .before .before .enum-told16 .given .1) (c .before .before .error-line .ensures)
 
 pub carry-out-spec : {M : Type 1} → statement M
 carry-out-spec =

@@ -16,15 +16,15 @@ last-error-requires c κs = search needs
 
 replied-requires : tie.Need-replied-requires
 unfolding shaped
-replied-requires c κs = c .before .pre .0 .shape
+replied-requires c κs = c .before .before .before .before .before .pre .0 .shape
 
 same-length : tie.Need-same-length
 same-length c = search needs
 
 returns : tie.Need-returns
 returns c =
-    let a = c .before .before .args in
-    replied-answers (c .replied .result) (withError (stateOf (a .s)) 0) _ _ (a .reply .now) _ (c .replied .ensures) (c .before .last-error .ensures)
+    let a = c .before .before .before .before .before .before .args in
+    replied-answers (c .replied .result) (withError (stateOf (a .s)) 0) _ _ (a .reply .now) _ (c .replied .ensures) (c .before .before .before .last-error .ensures)
     ∙ ap ofOutcome (sym (obeyed-error (stateOf (a .s)) (a .reply .now)))
 
 pub error-line-spec : {M : Type 1} → statement M

@@ -11,7 +11,7 @@ use Rattle.engine.proofs.answer.replied.Reads as replied-reads
 use Rattle.reply.proofs.links.Reads as links-reads
 
 links-requires : tie.Need-links-requires
-links-requires c κs = ready (c .args .s) (c .args .reply .now) (c .pre .0) (c .pre .1)
+links-requires c κs = ready _ _ (c .before .before .before .pre .0) (c .before .before .before .pre .1)
 
 replied-requires : tie.Need-replied-requires
 replied-requires c κs = search needs
@@ -21,8 +21,8 @@ same-length c = search needs
 
 returns : tie.Need-returns
 returns c =
-    let a = c .before .before .args in
-    replied-answers (c .replied .result) (stateOf (a .s)) _ _ (a .reply .now) _ (c .replied .ensures) (c .before .links .ensures)
+    let a = c .before .before .before .before .before .before .before .args in
+    replied-answers (c .replied .result) (stateOf (a .s)) _ _ (a .reply .now) _ (c .replied .ensures) (c .before .before .before .links .ensures)
     ∙ ap ofOutcome (sym (obeyed-links (stateOf (a .s)) (a .reply .now)))
 
 pub links-line-spec : {M : Type 1} → statement M
