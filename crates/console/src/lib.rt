@@ -3,7 +3,6 @@ use session::feed::Session;
 use session::feed::begin;
 use session::feed::feed;
 use session::feed::finish;
-
 ghost use Prim.Native.Nat.{_≤_};
 ghost use lib.ListN.{length};
 ghost use Rattle.model.specs.Limits.{bufferLimit};
@@ -11,7 +10,9 @@ ghost use Rattle.engine.specs.Fine.{Fine};
 ghost use Rattle.session.specs.Feed.{enough};
 
 const INPUT: i32 = 0;
+
 const OUTPUT: i32 = 1;
+
 const ERRORS: i32 = 2;
 
 // What a block left: the session, and whether its answers could be written.

@@ -1,13 +1,4 @@
 // A line obeyed: its buffer and bytes judged, then read, and what it asks carried out.
-use commands::systems::copy;
-use commands::systems::define;
-use commands::systems::enable;
-use commands::systems::link;
-use commands::systems::remove;
-use commands::whole::reset;
-use commands::whole::restore;
-use commands::whole::save;
-use commands::whole::set_level;
 use crate::answer::Stepped;
 use crate::answer::changed;
 use crate::answer::refused;
@@ -17,10 +8,18 @@ use crate::lists::links_line;
 use crate::lists::resultant_line;
 use crate::lists::resultants_line;
 use crate::lists::systems_line;
+use commands::systems::copy;
+use commands::systems::define;
+use commands::systems::enable;
+use commands::systems::link;
+use commands::systems::remove;
+use commands::whole::reset;
+use commands::whole::restore;
+use commands::whole::save;
+use commands::whole::set_level;
 use model::State;
 use request::Asked;
 use request::Request;
-
 ghost use mathlib.Core.Path.{_≡_};
 ghost use Prim.Native.Nat.{_≤_};
 ghost use lib.ListN.{length};
@@ -33,9 +32,13 @@ ghost use Rattle.engine.specs.Obeyed.{obeyed};
 
 // The numbers of a line that is judged before anything is asked.
 const SHORT: u8 = 2;
+
 const UNREADABLE: u8 = 3;
+
 const UNKNOWN: u8 = 4;
+
 const MALFORMED: u8 = 5;
+
 const BEYOND: u8 = 6;
 
 // The least lent buffer.

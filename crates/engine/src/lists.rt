@@ -7,7 +7,6 @@ use memory::find::find;
 use model::Group;
 use model::Name;
 use model::State;
-
 ghost use mathlib.Core.Path.{_≡_};
 ghost use Prim.Native.Nat.{_≤_};
 ghost use lib.ListN.{length};

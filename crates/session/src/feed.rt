@@ -7,7 +7,6 @@ use model::State;
 use print::put_byte;
 use print::put_decimal;
 use print::put_text;
-
 ghost use mathlib.Core.Path.{_≡_};
 ghost use mathlib.Core.List.{[]};
 ghost use Prim.Native.Nat.{_≤_};
