@@ -1,0 +1,5 @@
+pub mod Found
+pub mod Codes
+pub mod Fine
+pub mod Put
+pub mod Keys

@@ -1,0 +1,5 @@
+pub mod Types
+pub mod Values
+pub mod Lines
+pub mod EnabledText
+pub mod Reached
