@@ -1,0 +1,6 @@
+pub mod Buffer
+pub mod Whole
+pub mod Cutting
+pub mod Lines
+pub mod Answering
+pub mod Running

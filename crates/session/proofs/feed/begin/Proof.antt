@@ -1,0 +1,31 @@
+-- `begin`: the factory state, and nothing held.
+use mathlib.Core.Path.{_≡_, refl}
+use native.Mathlib.Omega.{arith}
+use Rattle.model.specs.Machine.{startFactory}
+use Rattle.model.proofs.Kept.{well-formed-kept}
+use Rattle.session.proofs.Answering.{view-is}
+use borrow.Author.Needs.{needs}
+use Rattle.session.proofs.feed.begin.Statement.{statement}
+use Rattle.session.proofs.feed.begin.Tie as tie
+use Rattle.session.proofs.feed.begin.Reads as reads
+use Rattle.session.proofs.feed.begin.Lts as lts
+use Rattle.machine.proofs.start_factory.Reads as start-factory-reads
+use Rattle.session.proofs.feed.nothing_held.Reads as nothing-held-reads
+
+start-factory-requires : tie.Need-start-factory-requires
+start-factory-requires c κs = search needs
+
+nothing-held-requires : tie.Need-nothing-held-requires
+nothing-held-requires c κs = search needs
+
+returns : tie.Need-returns
+returns c =
+    let v = view-is (c .before .start-factory .result) startFactory (c .before .start-factory .ensures) in
+    record {
+      held = rw (v .1, c .nothing-held .ensures) refl;
+      few = omega (arith, c .nothing-held .ensures);
+      fine = record { shape = v .0; formed = rw (v .1) (well-formed-kept .factory) };
+    }
+
+pub begin-spec : {M : Type 1} → statement M
+begin-spec = tie.close (tie.spec start-factory-requires nothing-held-requires returns)

@@ -1,0 +1,91 @@
+-- `feed`: the held line first, then whole lines.
+use mathlib.Core.Path.{_≡_, sym}
+use native.Mathlib.Omega.{arith}
+use lib.ListN.{length}
+use lib.Seq.{length-take-le}
+use Rattle.session.proofs.Running.{end-within, held-on, held-ends}
+use borrow.Author.Needs.{needs}
+use Rattle.session.proofs.feed.feed.Statement.{statement}
+use Rattle.session.proofs.feed.feed.Tie as tie
+use Rattle.session.proofs.feed.feed.Reads as reads
+use Rattle.session.proofs.feed.feed.Lts as lts
+use Rattle.session.proofs.cut.keep.Reads as keep-reads
+use Rattle.session.proofs.cut.line_end.Reads as line-end-reads
+use Rattle.session.proofs.feed.answer_line.Reads as answer-line-reads
+use Rattle.session.proofs.feed.nothing_held.Reads as nothing-held-reads
+use Rattle.session.proofs.feed.whole_lines.Reads as whole-lines-reads
+
+whole-lines-requires : tie.Need-whole-lines-requires
+whole-lines-requires c κs = search needs
+
+same-length : tie.Need-same-length
+same-length c = search needs
+
+returns : tie.Need-returns
+returns c = rw (c .before .before .before .before .if1 .taken) (c .before .before .whole-lines .ensures)
+
+line-end-requires : tie.Need-line-end-requires
+line-end-requires c κs = search needs
+
+slice-aggregate-keep : tie.Need-slice-aggregate-keep
+slice-aggregate-keep c =
+    let start = c .before .before .before .before .before .before .before .before in
+    sym (length-take-le _ (start .args .block .now) (end-within (start .args .block .now) 0 _ (omega arith) (c .before .line-end .ensures)))
+
+keep-requires : tie.Need-keep-requires
+keep-requires c κs = search needs
+
+returns-2 : tie.Need-returns-2
+returns-2 c =
+    let start = c .before .before .before .before .before .before .before .before .before .before in
+    held-on (start .args .s) (start .args .block .now) (start .args .out .now) (c .before .before .before .line-end .result) (c .before .keep .result) (start .pre .0) (start .pre .1 .0) (c .before .before .before .line-end .ensures) (c .if2 .taken) (c .before .keep .ensures)
+
+array-share-prefix-bytes : tie.Need-array-share-prefix-bytes
+array-share-prefix-bytes c =
+    let e : length (c .before .before .keep .result .bytes) ≡ 121 = search needs in
+    omega (arith, e, c .before .before .keep .ensures .count)
+
+slice-aggregate-answer-line : tie.Need-slice-aggregate-answer-line
+slice-aggregate-answer-line c =
+    let e : length (c .before .before .before .keep .result .bytes) ≡ 121 = search needs in
+    sym (length-take-le _ (c .before .before .before .keep .result .bytes) (omega (arith, e, c .before .before .before .keep .ensures .count)))
+
+answer-line-requires : tie.Need-answer-line-requires
+answer-line-requires c κs = search needs
+
+nothing-held-requires : tie.Need-nothing-held-requires
+nothing-held-requires c κs = search needs
+
+add-t20 : tie.Need-add-t20
+add-t20 c =
+    let start = c .before .before .before .before .before .before .before .before .before .before .before .before .before .before .before .before .before .before in
+    record { fits = omega (arith, end-within (start .args .block .now) 0 _ (omega arith) (c .before .before .before .before .before .before .before .before .before .before .before .line-end .ensures), c .before .before .before .before .before .before .before .before .if2 .left, start .good .1 .0 .0) }
+
+same-length-2 : tie.Need-same-length-2
+same-length-2 c = search needs
+
+returns-3 : tie.Need-returns-3
+returns-3 c =
+    let start = c .before .before .before .before .before .before .before .before .before .before .before .before .before .before .before .before .before .before in
+    let w = end-within (start .args .block .now) 0 _ (omega arith) (c .before .before .before .before .before .before .before .before .before .before .before .line-end .ensures) in
+    held-ends (start .args .s) (start .args .block .now) (start .args .out .now) _ (c .before .before .before .before .before .before .before .before .before .before .before .line-end .result) (c .before .before .before .before .before .before .before .before .before .keep .result) (c .before .before .before .before .answer-line .result) (c .nothing-held .result) (start .pre .1 .0) (c .before .before .before .before .before .before .before .before .before .before .before .line-end .ensures)
+    (omega (arith, w, c .before .before .before .before .before .before .before .before .if2 .left)) (c .before .before .before .before .before .before .before .before .before .keep .ensures) (c .before .before .before .before .answer-line .ensures) (c .nothing-held .ensures)
+
+pub feed-spec : {M : Type 1} → statement M
+feed-spec =
+    tie.close
+    (tie.spec
+    whole-lines-requires
+    same-length
+    returns
+    line-end-requires
+    slice-aggregate-keep
+    keep-requires
+    returns-2
+    array-share-prefix-bytes
+    slice-aggregate-answer-line
+    answer-line-requires
+    nothing-held-requires
+    add-t20
+    same-length-2
+    returns-3)
