@@ -1,0 +1,51 @@
+-- Laws of lists, and of the comparison of bytes, that the library lacks.
+use Prim.Native.Nat.{ℕ, zero, suc, _+_, _-_, _<_, _≤_}
+use mathlib.Core.Path.{_≡_, refl, ap, _∙_}
+use mathlib.Core.List.{List, [], _∷_, map}
+use mathlib.Core.Bool.{Bool, true, false, _&&_}
+use native.Mathlib.Numerals.{add-one}
+use borrow.Author.Tests.{eq-eqb, ne-eqb}
+use lib.Dec.{eqb}
+use lib.ListN.{length, take, drop, getD, drop-of-length-le}
+use lib.Seq.{drop-cons}
+use Rattle.model.specs.Lists.{same}
+
+pub and-false : (a : Bool) → a && false ≡ false
+and-false true = refl
+and-false false = refl
+
+module _ {A B : Type 0} (f : A → B) where
+  pub map-take : (n : ℕ) (l : List A) → map f (take n l) ≡ take n (map f l)
+  map-take zero l = refl
+  map-take (suc n) [] = refl
+  map-take (suc n) (x ∷ l) = ap (λ (m : List B). f x ∷ m) (map-take n l)
+
+  pub map-drop : (n : ℕ) (l : List A) → map f (drop n l) ≡ drop n (map f l)
+  map-drop zero l = refl
+  map-drop (suc n) [] = refl
+  map-drop (suc n) (x ∷ l) = map-drop n l
+
+-- ---- a loop that compares two lists
+
+-- lists of different lengths differ
+pub same-length : (p q : List ℕ) → (length p ≡ length q → ⊥) → same p q ≡ false
+unfolding same
+same-length [] [] h = absurd (h refl)
+same-length [] (b ∷ q) h = refl
+same-length (a ∷ p) [] h = refl
+same-length (a ∷ p) (b ∷ q) h = rw (same-length p q (λ e. h (ap suc e))) (and-false (eqb a b))
+
+module _ (p q : List ℕ) (i : ℕ) (hp : i < length p) (hq : i < length q) where
+  same-turn : same (drop i p) (drop i q) ≡ (eqb (getD p i 0) (getD q i 0) && same (drop (i + 1) p) (drop (i + 1) q))
+  unfolding same
+  same-turn = rw (add-one, drop-cons p i 0, drop-cons q i 0)
+
+  pub same-next : getD p i 0 ≡ getD q i 0 → same (drop i p) (drop i q) ≡ same (drop (i + 1) p) (drop (i + 1) q)
+  same-next e = same-turn ∙ rw (eq-eqb _ _ e)
+
+  pub same-stop : (getD p i 0 ≡ getD q i 0 → ⊥) → same (drop i p) (drop i q) ≡ false
+  same-stop e = same-turn ∙ rw (ne-eqb _ _ e)
+
+pub same-end : (p q : List ℕ) (i : ℕ) → length p ≤ i → length q ≤ i → same (drop i p) (drop i q) ≡ true
+unfolding same
+same-end p q i hp hq = rw (drop-of-length-le p hp, drop-of-length-le q hq)

@@ -1,0 +1,102 @@
+-- Names: what makes a word legal, byte by byte, and that a stored name gives its word back.
+use Prim.Native.Nat.{ℕ, suc, _+_, _-_, _<_, _≤_}
+use mathlib.Core.Path.{_≡_, refl, sym, _∙_}
+use mathlib.Core.List.{List, [], _∷_, _++_}
+use mathlib.Core.Bool.{Bool, true, false, _&&_}
+use mathlib.Core.Logic.{⊎-elim}
+use native.Mathlib.Omega.{arith}
+use native.Mathlib.Numerals.{add-one}
+use borrow.Author.Tests.{le-leb, lt-leb, leb-true}
+use lib.Dec.{leb}
+use lib.ListN.{length, take, drop, getD, set, replicate, drop-of-length-le}
+use lib.Seq.{drop-cons, take-suc, take-at, set-at, length-take-le, append-snoc}
+use Rattle.model.specs.Limits.{nameLimit}
+use Rattle.model.specs.Lists.{all}
+use Rattle.model.specs.Stored.{bytesOf}
+use Rattle.model.specs.Words.{legalName, capital, nameByte}
+use Rattle.model.proofs.Basics.{and-split, either}
+use Rattle.text.specs.declared.names.NameRead.{NameRead}
+use Rattle.text.specs.Names.{nameRead, noName, stored}
+use Rattle.text.proofs.Lists.{and-false}
+
+-- ---- the word that a loop reads
+
+pub legal-none : (w : List ℕ) → length w ≡ 0 → legalName w ≡ false
+unfolding legalName
+legal-none [] h = refl
+legal-none (b ∷ bs) h = absurd (omega arith)
+
+pub legal-long : (w : List ℕ) → nameLimit < length w → legalName w ≡ false
+unfolding legalName
+legal-long [] h = refl
+legal-long (b ∷ bs) h = rw (lt-leb (suc (length bs)) nameLimit h) (and-false (capital b && all nameByte bs))
+
+pub legal-first : (w : List ℕ) → capital (getD w 0 0) ≡ false → legalName w ≡ false
+unfolding legalName
+legal-first [] h = refl
+legal-first (b ∷ bs) h = rw h
+
+-- a capital first, and not too long: what is left are the bytes
+and-true : (a : Bool) → a && true ≡ a
+and-true true = refl
+and-true false = refl
+
+pub legal-bytes : (w : List ℕ) → 0 < length w → length w ≤ nameLimit → capital (getD w 0 0) ≡ true → legalName w ≡ all nameByte w
+unfolding legalName all
+legal-bytes [] h g e = absurd (omega arith)
+legal-bytes (b ∷ bs) h g e = rw (e, le-leb (suc (length bs)) nameLimit g) (and-true (all nameByte bs))
+
+module _ (w : List ℕ) (i : ℕ) where
+  pub bytes-next : i < length w → nameByte (getD w i 0) ≡ true → all nameByte (drop i w) ≡ all nameByte (drop (i + 1) w)
+  unfolding all
+  bytes-next h e = rw (add-one, drop-cons w i 0, e)
+
+  pub bytes-stop : i < length w → nameByte (getD w i 0) ≡ false → all nameByte (drop i w) ≡ false
+  unfolding all
+  bytes-stop h e = rw (drop-cons w i 0, e)
+
+  pub bytes-end : length w ≤ i → all nameByte (drop i w) ≡ true
+  unfolding all
+  bytes-end h = rw (drop-of-length-le w h)
+
+  -- one more byte is stored
+  pub stored-next : (b : ℕ) → i < length w → i < nameLimit → getD w i 0 ≡ b →
+      set (take i w ++ replicate (nameLimit - i) 0) i b ≡ take (i + 1) w ++ replicate (nameLimit - (i + 1)) 0
+  stored-next b h g e =
+      let n : nameLimit - i ≡ suc (nameLimit - (i + 1)) = omega arith in
+      let r = replicate {A = ℕ} (nameLimit - suc i) 0 in
+      rw (n, add-one i, take-suc w i 0, e) (set-at (take i w) 0 r b i (length-take-le i w (omega arith)) ∙ sym (append-snoc (take i w) b r))
+
+-- ---- the result
+
+pub read-none : (w : List ℕ) → legalName w ≡ false → nameRead w ≡ noName
+unfolding nameRead
+read-none w e = rw e
+
+pub read-some : (w : List ℕ) → legalName w ≡ true → nameRead w ≡ record { ok = true; name = stored w }
+unfolding nameRead
+read-some w e = rw e
+
+-- a name read gives the word's bytes, and has room for them
+pub legal-short : (w : List ℕ) → legalName w ≡ true → length w ≤ nameLimit
+unfolding legalName
+legal-short [] e = omega arith
+legal-short (b ∷ bs) e = leb-true (suc (length bs)) nameLimit (and-split (capital b && all nameByte bs) (leb (suc (length bs)) nameLimit) e .1)
+
+pub stored-bytes : (w : List ℕ) → bytesOf (stored w) ≡ w
+stored-bytes w = take-at w (replicate (nameLimit - length w) 0) (length w) refl
+
+-- for a caller of `read_name`
+module _ (w : List ℕ) (r : NameRead) (e : r ≡ nameRead w) where
+  pub name-ok : r .ok ≡ legalName w
+  name-ok = rw e (⊎-elim (λ t. rw (read-some w t, t)) (λ f. rw (read-none w f, f)) (either (legalName w)))
+
+  module _ (t : legalName w ≡ true) where
+    pub name-is : r .name ≡ stored w
+    name-is = rw (e, read-some w t)
+
+    pub name-bytes : bytesOf (r .name) ≡ w
+    name-bytes = rw name-is (stored-bytes w)
+
+    pub name-short : r .name .len ≤ nameLimit
+    name-short = rw name-is (legal-short w t)

@@ -1,0 +1,75 @@
+use mathlib.Core.Path.{ap, subst, _∙_}
+use native.Mathlib.Omega.{arith}
+use borrow.Author.Needs.{sfits-of}
+use mir.Facts.{toZ-ofZ}
+use Rattle.text.specs.Numbers.{Good}
+use Rattle.text.proofs.NumberRange.{pow-le}
+use mathlib.Core.Option.{some}
+use borrow.Author.Needs.{needs}
+use Rattle.text.proofs.numbers.value_of.Statement.{statement}
+use Rattle.text.proofs.numbers.value_of.Tie as tie
+
+enum-told : tie.Need-enum-told
+enum-told c = search needs
+
+enum-told-2 : tie.Need-enum-told-2
+enum-told-2 c = search needs
+
+enum-known-n : tie.Need-enum-known-n
+enum-known-n c = search needs
+
+mul-signed : tie.Need-mul-signed
+mul-signed c = let g = subst Good (c .before .n .given .1) (c .before .before .before .pre) in omega (arith, g .1, pow-le (c .before .n .given .0 .1 .0) (g .0))
+
+signed-requires : tie.Need-signed-requires
+signed-requires c κs = let g = subst Good (c .before .n .given .1) (c .before .before .before .pre) in omega (arith, g .1, pow-le (c .before .n .given .0 .1 .0) (g .0))
+
+enum-told-3 : tie.Need-enum-told-3
+enum-told-3 c = search needs
+
+enum-known-n-2 : tie.Need-enum-known-n-2
+enum-known-n-2 c = search needs
+
+signed-requires-2 : tie.Need-signed-requires-2
+signed-requires-2 c κs = let g = subst Good (c .before .n2 .given .1) (c .before .before .before .pre) in omega arith
+
+enum-told-4 : tie.Need-enum-told-4
+enum-told-4 c = search needs
+
+returns : tie.Need-returns
+returns c = search needs
+
+returns-2 : tie.Need-returns-2
+returns-2 c = search needs
+
+returns-3 : tie.Need-returns-3
+returns-3 c = rw (c .before .before .n .given .1) (ap some (toZ-ofZ (sfits-of (c .signed .ok)) ∙ c .signed .ensures))
+
+returns-4 : tie.Need-returns-4
+returns-4 c = search needs
+
+returns-5 : tie.Need-returns-5
+returns-5 c = rw (c .before .before .n2 .given .1) (ap some (toZ-ofZ (sfits-of (c .signed2 .ok)) ∙ c .signed2 .ensures))
+
+returns-6 : tie.Need-returns-6
+returns-6 c = search needs
+
+pub value-of-spec : {M : Type 1} → statement M
+value-of-spec =
+    tie.close
+    (tie.spec
+    enum-told
+    enum-told-2
+    enum-known-n
+    mul-signed
+    signed-requires
+    enum-told-3
+    enum-known-n-2
+    signed-requires-2
+    enum-told-4
+    returns
+    returns-2
+    returns-3
+    returns-4
+    returns-5
+    returns-6)

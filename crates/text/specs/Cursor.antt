@@ -1,0 +1,41 @@
+-- Words of a line by a cursor. The laws in proofs/WordLaws.antt tie them to the words of document 01.
+use Prim.Native.Nat.{ℕ, suc, _+_, _-_, _≤_}
+use mathlib.Core.List.{List, [], _∷_, map}
+use mathlib.Core.Bool.{cond}
+use lib.Dec.{eqb}
+use lib.ListN.{length, take, drop}
+use Rattle.model.specs.Words.{words, upper}
+use Rattle.text.specs.declared.words.Word.{Word}
+
+-- how many spaces stand first
+unfoldable pub blanks : List ℕ → ℕ
+blanks [] = 0
+blanks (b ∷ bs) = cond (eqb b 32) (suc (blanks bs)) 0
+
+-- how many bytes other than space stand first
+unfoldable pub run : List ℕ → ℕ
+run [] = 0
+run (b ∷ bs) = cond (eqb b 32) 0 (suc (run bs))
+
+-- the next word from a place on; it is empty where none is left
+abbrev pub nextWord : List ℕ → ℕ → Word
+nextWord line at =
+    let start = at + blanks (drop at line) in
+    record { start = start; end = start + run (drop start line) }
+
+-- n bytes of a line from a place on, lower case letters as upper case
+abbrev pub wordAt : List ℕ → ℕ → ℕ → List ℕ
+wordAt line start n = map upper (take n (drop start line))
+
+-- a word's bytes
+abbrev pub wordOf : List ℕ → Word → List ℕ
+wordOf line w = wordAt line (w .start) (w .end - w .start)
+
+-- the words from a place on
+abbrev pub wordsFrom : List ℕ → ℕ → List (List ℕ)
+wordsFrom line at = words (drop at line)
+
+-- a word lies within its line
+pub record Within (line : List ℕ) (w : Word) : Type 0 where
+  pub ordered : w .start ≤ w .end
+  pub inside : w .end ≤ length line

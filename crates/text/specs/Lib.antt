@@ -1,0 +1,4 @@
+pub mod Cursor
+pub mod Names
+pub mod Numbers
+pub mod Values

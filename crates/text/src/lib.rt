@@ -1,0 +1,5 @@
+// The bytes of a line: its words, and the names, numbers and axis pairs that they spell.
+pub mod names;
+pub mod numbers;
+pub mod values;
+pub mod words;

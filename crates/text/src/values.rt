@@ -1,0 +1,58 @@
+// Values in whole millionths: of a millimetre for X Y Z, of a degree for U V W.
+ghost use mathlib.Core.Path.{_≡_};
+ghost use mathlib.Core.Bool.{true};
+ghost use Prim.Native.Nat.{_<_, _^_};
+ghost use lib.IntN.{natAbs};
+ghost use Rattle.model.specs.Words.{offset?, angle?, quarters};
+ghost use Rattle.text.specs.Values.{withSign};
+
+// An own offset, either way.
+const OFFSET_LIMIT: u64 = 1000000000;
+// A quarter turn.
+const QUARTER_TURN: u64 = 90000000;
+
+pub fn signed(minus: bool, v: u64) -> i64
+    requires { ⌜ v < 2 ^ 63 ⌝ }
+    ensures { λ r. ⌜ r ≡ withSign minus v ⌝ }
+{
+    let n = v as i64;
+    if minus {
+        return -n;
+    }
+    n
+}
+
+pub fn magnitude(z: i64) -> u64
+    ensures { λ r. ⌜ r ≡ natAbs z ⌝ }
+{
+    if z < 0 {
+        let m = -(z + 1);
+        return m as u64 + 1;
+    }
+    z as u64
+}
+
+pub fn offset_fine(z: i64) -> bool
+    ensures { λ r. ⌜ r ≡ offset? z ⌝ }
+{
+    magnitude(z) <= OFFSET_LIMIT
+}
+
+pub fn angle_fine(z: i64) -> bool
+    ensures { λ r. ⌜ r ≡ angle? z ⌝ }
+{
+    let m = magnitude(z);
+    m % QUARTER_TURN == 0 && m / QUARTER_TURN <= 3
+}
+
+// The quarter turns that a listed angle is kept as.
+pub fn quarter_turns(z: i64) -> u8
+    requires { ⌜ angle? z ≡ true ⌝ }
+    ensures { λ r. ⌜ r ≡ quarters z ⌝ }
+{
+    let q = (magnitude(z) / QUARTER_TURN) as u8;
+    if z < 0 {
+        return 4 - q;
+    }
+    q
+}
