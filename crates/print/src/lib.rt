@@ -1,0 +1,149 @@
+// Texts and numbers written into a lent part, in place and in one pass. A writer takes the place where its text is to begin and returns the place
+// after it, so that writers follow on one another; what they leave in the whole part is `Wrote` of specs/.
+use model::Name;
+ghost use mathlib.Core.Path.{_≡_};
+ghost use mathlib.Core.List.{_∷_, []};
+ghost use Prim.Native.Nat.{ℕ, _+_, _*_, _/_, _≤_, _<_, _^_};
+ghost use lib.ListN.{length};
+ghost use lib.IntN.{natAbs, negℤ};
+ghost use Rattle.model.specs.Limits.{million, nameLimit};
+ghost use Rattle.model.specs.Stored.{bytesOf};
+ghost use Rattle.model.specs.Reply.{lastDigits, decimal, value, degrees};
+ghost use Rattle.print.specs.Over.{Wrote, millionths};
+
+pub fn put_text(out: &mut [u8], at: usize, text: &[u8]) -> usize
+    requires { ⌜ at + length (now text) ≤ length (now out) ⌝ }
+    ensures { λ r. ⌜ Wrote (now (text .entry)) (now (out .entry)) at (now (out .exit)) r ⌝ }
+{
+    let n = text.len();
+    let mut i = 0;
+    while i < n {
+        out[at + i] = text[i];
+        i += 1;
+    }
+    at + n
+}
+
+pub fn put_name(out: &mut [u8], at: usize, name: Name) -> usize
+    requires { ⌜ (name .len ≤ nameLimit) × (at + length (bytesOf name) ≤ length (now out)) ⌝ }
+    ensures { λ r. ⌜ Wrote (bytesOf name) (now (out .entry)) at (now (out .exit)) r ⌝ }
+{
+    let bytes = name.bytes;
+    let n = name.len as usize;
+    put_text(out, at, &bytes[..n])
+}
+
+fn put_byte(out: &mut [u8], at: usize, b: u8) -> usize
+    requires { ⌜ at < length (now out) ⌝ }
+    ensures { λ r. ⌜ Wrote (b ∷ []) (now (out .entry)) at (now (out .exit)) r ⌝ }
+{
+    out[at] = b;
+    at + 1
+}
+
+// The last digit, the last two, three, six: divisors are constants, so that no division is left in the machine code.
+fn put_one(out: &mut [u8], at: usize, n: u32) -> usize
+    requires { ⌜ at + 1 ≤ length (now out) ⌝ }
+    ensures { λ r. ⌜ Wrote (lastDigits 1 n) (now (out .entry)) at (now (out .exit)) r ⌝ }
+{
+    put_byte(out, at, 48 + (n % 10) as u8)
+}
+
+fn put_two(out: &mut [u8], at: usize, n: u32) -> usize
+    requires { ⌜ at + 2 ≤ length (now out) ⌝ }
+    ensures { λ r. ⌜ Wrote (lastDigits 2 n) (now (out .entry)) at (now (out .exit)) r ⌝ }
+{
+    let i = put_one(out, at, n / 10);
+    put_one(out, i, n)
+}
+
+fn put_three(out: &mut [u8], at: usize, n: u32) -> usize
+    requires { ⌜ at + 3 ≤ length (now out) ⌝ }
+    ensures { λ r. ⌜ Wrote (lastDigits 3 n) (now (out .entry)) at (now (out .exit)) r ⌝ }
+{
+    let i = put_one(out, at, n / 100);
+    put_two(out, i, n)
+}
+
+fn put_six(out: &mut [u8], at: usize, n: u32) -> usize
+    requires { ⌜ at + 6 ≤ length (now out) ⌝ }
+    ensures { λ r. ⌜ Wrote (lastDigits 6 n) (now (out .entry)) at (now (out .exit)) r ⌝ }
+{
+    let i = put_three(out, at, n / 1000);
+    put_three(out, i, n)
+}
+
+// Without leading zeros.
+pub fn put_decimal(out: &mut [u8], at: usize, n: u32) -> usize
+    requires { ⌜ at + length (decimal n) ≤ length (now out) ⌝ }
+    ensures { λ r. ⌜ Wrote (decimal n) (now (out .entry)) at (now (out .exit)) r ⌝ }
+{
+    if n < 10 {
+        return put_one(out, at, n);
+    }
+    if n < 100 {
+        return put_two(out, at, n);
+    }
+    if n < 1000 {
+        return put_three(out, at, n);
+    }
+    if n < 10000 {
+        let i = put_one(out, at, n / 1000);
+        return put_three(out, i, n);
+    }
+    let i = put_two(out, at, n / 1000);
+    put_three(out, i, n)
+}
+
+// m millionths with six decimals.
+fn put_millionths(out: &mut [u8], at: usize, m: u64) -> usize
+    requires { ⌜ (m / million < 2 ^ 32) × (at + length (millionths m) ≤ length (now out)) ⌝ }
+    ensures { λ r. ⌜ Wrote (millionths m) (now (out .entry)) at (now (out .exit)) r ⌝ }
+{
+    let i = put_decimal(out, at, (m / 1000000) as u32);
+    let j = put_byte(out, i, b'.');
+    put_six(out, j, (m % 1000000) as u32)
+}
+
+fn negated(z: i64) -> i64
+    requires { ⌜ natAbs z < 2 ^ 63 ⌝ }
+    ensures { λ r. ⌜ r ≡ negℤ z ⌝ }
+{
+    -z
+}
+
+fn magnitude(z: i64) -> u64
+    requires { ⌜ natAbs z < 2 ^ 63 ⌝ }
+    ensures { λ r. ⌜ r ≡ natAbs z ⌝ }
+{
+    if z < 0 {
+        let m = negated(z);
+        return m as u64;
+    }
+    z as u64
+}
+
+pub fn put_value(out: &mut [u8], at: usize, z: i64) -> usize
+    requires { ⌜ (natAbs z / million < 2 ^ 32) × (at + length (value z) ≤ length (now out)) ⌝ }
+    ensures { λ r. ⌜ Wrote (value z) (now (out .entry)) at (now (out .exit)) r ⌝ }
+{
+    let m = magnitude(z);
+    if z < 0 {
+        let i = put_byte(out, at, b'-');
+        return put_millionths(out, i, m);
+    }
+    put_millionths(out, at, m)
+}
+
+// Quarter turns, as degrees.
+pub fn put_degrees(out: &mut [u8], at: usize, quarters: u8) -> usize
+    requires { ⌜ (quarters ≤ 3) × (at + length (degrees quarters) ≤ length (now out)) ⌝ }
+    ensures { λ r. ⌜ Wrote (degrees quarters) (now (out .entry)) at (now (out .exit)) r ⌝ }
+{
+    match quarters {
+        0 => put_text(out, at, b"0.000000"),
+        1 => put_text(out, at, b"90.000000"),
+        2 => put_text(out, at, b"180.000000"),
+        _ => put_text(out, at, b"270.000000"),
+    }
+}
