@@ -1,0 +1,69 @@
+-- The cursor's words are the fields of a line.
+use Prim.Native.Nat.{ℕ, suc, _+_, _-_, _<_, _≤_}
+use mathlib.Core.Path.{_≡_, refl, sym, ap, _∙_}
+use mathlib.Core.List.{List, [], _∷_}
+use mathlib.Core.Bool.{Bool, true, false, cond, _&&_}
+use native.Mathlib.Omega.{arith}
+use lib.Dec.{eqb}
+use lib.ListN.{length, take, drop, getD, length-take, length-drop}
+use lib.Seq.{drop-drop}
+use Rattle.model.specs.Lists.{none?, same}
+use Rattle.text.specs.declared.words.Word.{Word}
+use Rattle.text.specs.Cursor.{blanks, run, nextWord, Within}
+use Rattle.text.proofs.WordLaws.{word-within}
+use Rattle.script.specs.Directive.{field, behind, fieldsUpTo}
+
+-- the bytes of a word as they are
+abbrev pub bytesAt : List ℕ → Word → List ℕ
+bytesAt text w = take (w .end - w .start) (drop (w .start) text)
+
+some-left : (l : List ℕ) → 0 < length l → none? l ≡ false
+unfolding none?
+some-left [] h = absurd (omega arith)
+some-left (x ∷ l) h = refl
+
+module _ (text : List ℕ) (at : ℕ) where
+  abbrev start : ℕ
+  start = at + blanks (drop at text)
+
+  to-start : drop (blanks (drop at text)) (drop at text) ≡ drop start text
+  to-start = drop-drop (blanks (drop at text)) at text
+
+module _ (text : List ℕ) (at : ℕ) (w : Word) (e : w ≡ nextWord text at) where
+  the-field : field (drop at text) ≡ bytesAt text w
+  the-field =
+      let s = start text at in
+      let r = run (drop s text) in
+      let z : r ≡ s + r - s = omega arith in
+      rw e (ap (λ (t : List ℕ). take (run t) t) (to-start text at) ∙ ap (λ (n : ℕ). take n (drop s text)) z)
+
+  the-rest : behind (drop at text) ≡ drop (w .end) text
+  the-rest = rw e (ap (λ (t : List ℕ). drop (run t) t) (to-start text at) ∙ drop-drop (run (drop (start text at) text)) (start text at) text)
+
+  -- no field is left
+  pub no-field : (n : ℕ) → w .start ≡ w .end → fieldsUpTo (suc n) (drop at text) ≡ []
+  unfolding fieldsUpTo none?
+  no-field n h =
+      let z : w .end - w .start ≡ 0 = omega arith in
+      let f : field (drop at text) ≡ [] = the-field ∙ ap (λ (k : ℕ). take k (drop (w .start) text)) z in
+      rw f
+
+  -- the field, and those behind it
+  pub a-field : (n : ℕ) → at ≤ length text → (w .start ≡ w .end → ⊥) → fieldsUpTo (suc n) (drop at text) ≡ bytesAt text w ∷ fieldsUpTo n (drop (w .end) text)
+  unfolding fieldsUpTo
+  a-field n g h =
+      let in-text = word-within text at w e g in
+      let long : 0 < length (bytesAt text w) = simp (length-take, length-drop) (omega (arith, in-text .ordered, in-text .inside)) in
+      rw (the-field, the-rest) (rw (some-left (bytesAt text w) long))
+
+-- ---- a word of one byte
+
+and-true : (a : Bool) → a && true ≡ a
+and-true true = refl
+and-true false = refl
+
+pub same-one : (w : List ℕ) (b : ℕ) → length w ≡ 1 → same w (b ∷ []) ≡ eqb (getD w 0 0) b
+unfolding same
+same-one [] b h = absurd (omega arith)
+same-one (x ∷ []) b h = and-true (eqb x b)
+same-one (x ∷ y ∷ l) b h = absurd (omega arith)
