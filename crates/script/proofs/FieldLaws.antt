@@ -7,15 +7,16 @@ use native.Mathlib.Omega.{arith}
 use lib.Dec.{eqb}
 use lib.ListN.{length, take, drop, getD, length-take, length-drop}
 use lib.Seq.{drop-drop}
+use borrow.Author.Tests.{le-leb, lt-leb}
 use Rattle.model.specs.Lists.{none?, same}
+use Rattle.print.specs.Over.{over}
 use Rattle.text.specs.declared.words.Word.{Word}
 use Rattle.text.specs.Cursor.{blanks, run, nextWord, Within}
 use Rattle.text.proofs.WordLaws.{word-within}
-use Rattle.script.specs.Directive.{field, behind, fieldsUpTo}
-
--- the bytes of a word as they are
-abbrev pub bytesAt : List ℕ → Word → List ℕ
-bytesAt text w = take (w .end - w .start) (drop (w .start) text)
+use Rattle.script.specs.Hex.{pairsRead}
+use Rattle.script.specs.declared.parse.Directive.{Directive}
+use Rattle.script.specs.declared.parse.Directive.the-variants.{Malformed}
+use Rattle.script.specs.Directive.{longestLine, field, behind, fieldsUpTo, fields, bytesAt, Order, unclear, understood, order, hexField, hexOf, orderOf, Understood}
 
 some-left : (l : List ℕ) → 0 < length l → none? l ≡ false
 unfolding none?
@@ -48,13 +49,34 @@ module _ (text : List ℕ) (at : ℕ) (w : Word) (e : w ≡ nextWord text at) wh
       let f : field (drop at text) ≡ [] = the-field ∙ ap (λ (k : ℕ). take k (drop (w .start) text)) z in
       rw f
 
-  -- the field, and those behind it
-  pub a-field : (n : ℕ) → at ≤ length text → (w .start ≡ w .end → ⊥) → fieldsUpTo (suc n) (drop at text) ≡ bytesAt text w ∷ fieldsUpTo n (drop (w .end) text)
+  -- the field f, and those behind it
+  pub a-field : (n : ℕ) {f : List ℕ} {fs : List (List ℕ)} → at ≤ length text → (w .start ≡ w .end → ⊥) → f ≡ bytesAt text w →
+      fieldsUpTo n (drop (w .end) text) ≡ fs → fieldsUpTo (suc n) (drop at text) ≡ f ∷ fs
   unfolding fieldsUpTo
-  a-field n g h =
+  a-field n g h p q =
       let in-text = word-within text at w e g in
       let long : 0 < length (bytesAt text w) = simp (length-take, length-drop) (omega (arith, in-text .ordered, in-text .inside)) in
-      rw (the-field, the-rest) (rw (some-left (bytesAt text w) long))
+      rw (the-field, the-rest) (rw (some-left (bytesAt text w) long, p, q))
+
+pub bytes-short : (text : List ℕ) (w : Word) → length (bytesAt text w) ≤ length text
+bytes-short text w = simp (length-take, length-drop) (omega arith)
+
+-- ---- a whole line
+
+-- nothing is ordered, and nothing decoded
+pub nothing : (b : List ℕ) → Understood unclear [] b Malformed b
+unfolding pairsRead over
+nothing b = record { order = refl; bytes = refl }
+
+pub too-long : (text b : List ℕ) → longestLine < length text → Understood (order text) (hexOf text) b Malformed b
+unfolding order hexOf
+too-long text b h = let e = lt-leb (length text) longestLine h in rw e (nothing b)
+
+-- what the fields say, the line says
+pub by-fields : (text : List ℕ) {before after : List ℕ} {fs : List (List ℕ)} {r : Directive} → length text ≤ longestLine → fields text ≡ fs →
+    Understood (understood fs) (hexField fs) before r after → Understood (order text) (hexOf text) before r after
+unfolding order hexOf
+by-fields text h e u = rw (le-leb (length text) longestLine h, e) u
 
 -- ---- a word of one byte
 

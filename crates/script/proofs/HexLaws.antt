@@ -16,7 +16,9 @@ use Rattle.model.proofs.Basics.{and-join}
 use Rattle.text.proofs.Lists.{and-false}
 use Rattle.print.specs.Over.{over}
 use Rattle.print.proofs.Laws.{over-front}
-use Rattle.script.specs.Hex.{digitValue, digit?, pairValue, hex?, pairsRead, decoded, Decodes, glyph, hexed}
+use Rattle.script.specs.declared.hex.Decoded.{Decoded}
+use Rattle.script.specs.Directive.{bytesTold}
+use Rattle.script.specs.Hex.{digitValue, digit?, pairValue, hex?, pairsRead, unhexed, decoded, Decodes, glyph, hexed}
 
 -- ---- two bytes at a place
 
@@ -122,6 +124,12 @@ pairs-half (a ∷ b ∷ bs) = pick (digit? a && digit? b) (pairs-half bs)
 -- a text at the front of a buffer is read back
 pub read-back : (t b : List ℕ) → length t ≤ length b → take (length t) (over b 0 t) ≡ t
 read-back t b h = ap (take (length t)) (over-front t b h) ∙ take-append-seam t (drop (length t) b)
+
+pub told-bytes : {h before after : List ℕ} {r : Decoded} → length h ≤ 2 * length before → Decodes h before r after → bytesTold r after ≡ unhexed h
+unfolding unhexed
+told-bytes {h} {before} g d =
+    rw (d .answer, d .bytes)
+    (ap (λ (t : List ℕ). cond (hex? h) (some t) none) (read-back (pairsRead h) before (omega (arith, pairs-half h))))
 
 -- ---- a loop that writes
 

@@ -1,3 +1,4 @@
 pub mod HexLaws
 pub mod FieldLaws
 pub mod LengthLaws
+pub mod OrderLaws

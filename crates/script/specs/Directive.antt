@@ -1,5 +1,5 @@
 -- What a line of a script orders.
-use Prim.Native.Nat.{ℕ, zero, suc}
+use Prim.Native.Nat.{ℕ, zero, suc, _-_}
 use mathlib.Core.Path.{_≡_}
 use mathlib.Core.List.{List, [], _∷_}
 use mathlib.Core.Bool.{cond, _&&_}
@@ -11,6 +11,7 @@ use Rattle.model.specs.Lists.{all, none?, same}
 use Rattle.model.specs.Words.{digit, spelled}
 use Rattle.print.specs.Over.{over}
 use Rattle.text.specs.Cursor.{blanks, run}
+use Rattle.text.specs.declared.words.Word.{Word}
 use Rattle.script.specs.Hex.{unhexed, pairsRead}
 use Rattle.script.specs.declared.hex.Decoded.{Decoded}
 use Rattle.script.specs.declared.parse.Length.{Length}
@@ -48,6 +49,10 @@ fieldsUpTo (suc n) text = cond (none? (field text)) [] (field text ∷ fieldsUpT
 -- no directive has more than three, so that four tell all
 abbrev pub fields : List ℕ → List (List ℕ)
 fields text = fieldsUpTo 4 text
+
+-- the bytes of a word that the cursor found
+abbrev pub bytesAt : List ℕ → Word → List ℕ
+bytesAt text w = take (w .end - w .start) (drop (w .start) text)
 
 -- ---- values
 

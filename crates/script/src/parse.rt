@@ -1,6 +1,7 @@
 // A line of a script: which directive it is, its length, and its bytes, decoded into a lent buffer.
 use crate::hex::Decoded;
 use crate::hex::decode;
+use text::words::Word;
 use text::words::between;
 use text::words::next_word;
 ghost use mathlib.Core.Path.{_≡_};
@@ -8,7 +9,8 @@ ghost use mathlib.Core.List.{List, [], _∷_};
 ghost use Prim.Native.Nat.{ℕ, _*_, _≤_};
 ghost use lib.ListN.{length};
 ghost use Rattle.model.specs.Lists.{same};
-ghost use Rattle.script.specs.Directive.{longestLine, lengthTold, lengthOf, Spelled, orderOf, oneField, twoFields, threeFields, hexField, Understood, order, hexOf};
+ghost use Rattle.text.specs.Cursor.{Within};
+ghost use Rattle.script.specs.Directive.{longestLine, bytesAt, lengthTold, lengthOf, Spelled, orderOf, oneField, twoFields, threeFields, hexField, Understood, order, hexOf};
 
 // The length of a buffer to be lent.
 pub enum Length {
@@ -117,6 +119,16 @@ fn three_fields(w: &[u8], h: &[u8], n: &[u8], bytes: &mut [u8]) -> Directive
     }
 }
 
+// The bytes of a word.
+fn bytes_of(text: &[u8], w: Word) -> &[u8]
+    requires { ⌜ Within (now text) w ⌝ }
+    ensures { λ r. ⌜ now r ≡ bytesAt (now (text .entry)) w ⌝ }
+{
+    let start = w.start;
+    let end = w.end;
+    &text[start..end]
+}
+
 pub fn parse(text: &[u8], bytes: &mut [u8]) -> Directive
     requires { ⌜ longestLine ≤ 2 * length (now bytes) ⌝ }
     ensures { λ r. ⌜ Understood (order (now (text .entry))) (hexOf (now (text .entry))) (now (bytes .entry)) r (now (bytes .exit)) ⌝ }
@@ -125,26 +137,23 @@ pub fn parse(text: &[u8], bytes: &mut [u8]) -> Directive
         return Directive::Malformed;
     }
     let w = next_word(text, 0);
-    let ws = w.start;
-    let we = w.end;
-    if ws == we {
+    if w.start == w.end {
         return Directive::Malformed;
     }
-    let v = next_word(text, we);
-    let vs = v.start;
-    let ve = v.end;
-    if vs == ve {
-        return one_field(&text[ws..we]);
+    let first = bytes_of(text, w);
+    let v = next_word(text, w.end);
+    if v.start == v.end {
+        return one_field(first);
     }
-    let n = next_word(text, ve);
-    let ns = n.start;
-    let ne = n.end;
-    if ns == ne {
-        return two_fields(&text[ws..we], &text[vs..ve], bytes);
+    let second = bytes_of(text, v);
+    let n = next_word(text, v.end);
+    if n.start == n.end {
+        return two_fields(first, second, bytes);
     }
-    let more = next_word(text, ne);
+    let third = bytes_of(text, n);
+    let more = next_word(text, n.end);
     if more.start != more.end {
         return Directive::Malformed;
     }
-    three_fields(&text[ws..we], &text[vs..ve], &text[ns..ne], bytes)
+    three_fields(first, second, third, bytes)
 }

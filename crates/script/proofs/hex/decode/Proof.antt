@@ -86,8 +86,8 @@ loop-again c =
       k .loop .inv .3,
       simp length-set (k .loop .inv .4),
       rw (p, q)
-      (left-next (k .loop .at) (k .loop .i) (k .loop .inv .5) (omega (arith, t, k .loop .inv .1))
-      (a-pair _ _ p q (c .before .if1 .left) (c .if2 .left))),
+          (left-next (k .loop .at) (k .loop .i) (k .loop .inv .5) (omega (arith, t, k .loop .inv .1))
+          (a-pair _ _ p q (c .before .if1 .left) (c .if2 .left))),
     )
 
 same-length-3 : tie.Need-same-length-3 Inv-loop μ-loop

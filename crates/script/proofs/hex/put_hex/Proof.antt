@@ -58,7 +58,7 @@ loop-again c =
       inv .3,
       simp length-set (inv .4),
       rw (c .before .digit-of .ensures, c .digit-of2 .ensures)
-      (inv .5 ∙ hexed-next (st .args .bytes .now) (k .loop .out) (k .loop .i) (k .loop .k) (c .before .before .before .loop-test .taken)),
+          (inv .5 ∙ hexed-next (st .args .bytes .now) (k .loop .out) (k .loop .i) (k .loop .k) (c .before .before .before .loop-test .taken)),
     )
 
 same-length : tie.Need-same-length Inv-loop μ-loop

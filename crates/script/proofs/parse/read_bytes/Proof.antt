@@ -1,4 +1,11 @@
+use mathlib.Core.Path.{_≡_, sym, _∙_}
+use mathlib.Core.List.{[], _∷_}
 use borrow.Author.Needs.{needs}
+use Rattle.model.proofs.Basics.{same→≡}
+use Rattle.print.specs.Over.{over}
+use Rattle.script.specs.Hex.{pairsRead}
+use Rattle.script.specs.Directive.{bytesOf}
+use Rattle.script.proofs.HexLaws.{told-bytes}
 use Rattle.script.proofs.parse.read_bytes.Statement.{statement}
 use Rattle.script.proofs.parse.read_bytes.Tie as tie
 use Rattle.script.proofs.parse.read_bytes.Reads as reads
@@ -6,25 +13,27 @@ use Rattle.script.proofs.parse.read_bytes.Lts as lts
 use Rattle.script.proofs.hex.decode.Reads as decode-reads
 use Rattle.script.proofs.parse.is_letter.Reads as is-letter-reads
 
--- src/parse.rt:62:8
 is-letter-requires : tie.Need-is-letter-requires
 is-letter-requires c κs = search needs
 
--- src/parse.rt:63:9
 returns : tie.Need-returns
-returns c = ?
+unfolding bytesOf pairsRead over
+returns c =
+    let t = sym (c .before .is-letter .ensures) ∙ c .if1 .taken in
+    record { told = rw t; bytes = rw (same→≡ _ (45 ∷ []) t) }
 
--- src/parse.rt:65:5
 decode-requires : tie.Need-decode-requires
 decode-requires c κs = search needs
 
--- src/parse.rt:58:1
 same-length : tie.Need-same-length
 same-length c = search needs
 
--- src/parse.rt:58:1
 returns-2 : tie.Need-returns-2
-returns-2 c = ?
+unfolding bytesOf
+returns-2 c =
+    let t = sym (c .before .before .before .before .before .is-letter .ensures) ∙ c .before .before .before .before .if1 .left in
+    let d = c .before .before .decode .ensures in
+    record { told = rw t (told-bytes (c .before .before .before .before .before .before .before .before .pre) d); bytes = d .bytes }
 
 pub read-bytes-spec : {M : Type 1} → statement M
 read-bytes-spec =
