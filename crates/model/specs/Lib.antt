@@ -21,5 +21,6 @@ pub mod Image
 pub mod Machine
 pub mod Trace
 pub mod Demand
+pub mod Claims
 pub mod Table
 pub mod Stored

@@ -3,10 +3,10 @@
 use model::Name;
 ghost use mathlib.Core.Path.{_≡_};
 ghost use mathlib.Core.List.{_∷_, []};
-ghost use Prim.Native.Nat.{ℕ, _+_, _*_, _/_, _≤_, _<_, _^_};
+ghost use Prim.Native.Nat.{_+_, _≤_, _<_, _^_};
 ghost use lib.ListN.{length};
 ghost use lib.IntN.{natAbs, negℤ};
-ghost use Rattle.model.specs.Limits.{million, nameLimit};
+ghost use Rattle.model.specs.Limits.{nameLimit};
 ghost use Rattle.model.specs.Stored.{bytesOf};
 ghost use Rattle.model.specs.Reply.{lastDigits, decimal, value, degrees};
 ghost use Rattle.print.specs.Over.{Wrote, millionths};
@@ -33,7 +33,7 @@ pub fn put_name(out: &mut [u8], at: usize, name: Name) -> usize
     put_text(out, at, &bytes[..n])
 }
 
-fn put_byte(out: &mut [u8], at: usize, b: u8) -> usize
+pub fn put_byte(out: &mut [u8], at: usize, b: u8) -> usize
     requires { ⌜ at < length (now out) ⌝ }
     ensures { λ r. ⌜ Wrote (b ∷ []) (now (out .entry)) at (now (out .exit)) r ⌝ }
 {
@@ -42,14 +42,14 @@ fn put_byte(out: &mut [u8], at: usize, b: u8) -> usize
 }
 
 // The last digit, the last two, three, six: divisors are constants, so that no division is left in the machine code.
-fn put_one(out: &mut [u8], at: usize, n: u32) -> usize
+fn put_one(out: &mut [u8], at: usize, n: u64) -> usize
     requires { ⌜ at + 1 ≤ length (now out) ⌝ }
     ensures { λ r. ⌜ Wrote (lastDigits 1 n) (now (out .entry)) at (now (out .exit)) r ⌝ }
 {
     put_byte(out, at, 48 + (n % 10) as u8)
 }
 
-fn put_two(out: &mut [u8], at: usize, n: u32) -> usize
+fn put_two(out: &mut [u8], at: usize, n: u64) -> usize
     requires { ⌜ at + 2 ≤ length (now out) ⌝ }
     ensures { λ r. ⌜ Wrote (lastDigits 2 n) (now (out .entry)) at (now (out .exit)) r ⌝ }
 {
@@ -57,7 +57,7 @@ fn put_two(out: &mut [u8], at: usize, n: u32) -> usize
     put_one(out, i, n)
 }
 
-fn put_three(out: &mut [u8], at: usize, n: u32) -> usize
+fn put_three(out: &mut [u8], at: usize, n: u64) -> usize
     requires { ⌜ at + 3 ≤ length (now out) ⌝ }
     ensures { λ r. ⌜ Wrote (lastDigits 3 n) (now (out .entry)) at (now (out .exit)) r ⌝ }
 {
@@ -65,7 +65,7 @@ fn put_three(out: &mut [u8], at: usize, n: u32) -> usize
     put_two(out, i, n)
 }
 
-fn put_six(out: &mut [u8], at: usize, n: u32) -> usize
+fn put_six(out: &mut [u8], at: usize, n: u64) -> usize
     requires { ⌜ at + 6 ≤ length (now out) ⌝ }
     ensures { λ r. ⌜ Wrote (lastDigits 6 n) (now (out .entry)) at (now (out .exit)) r ⌝ }
 {
@@ -74,7 +74,7 @@ fn put_six(out: &mut [u8], at: usize, n: u32) -> usize
 }
 
 // Without leading zeros.
-pub fn put_decimal(out: &mut [u8], at: usize, n: u32) -> usize
+pub fn put_decimal(out: &mut [u8], at: usize, n: u64) -> usize
     requires { ⌜ at + length (decimal n) ≤ length (now out) ⌝ }
     ensures { λ r. ⌜ Wrote (decimal n) (now (out .entry)) at (now (out .exit)) r ⌝ }
 {
@@ -97,12 +97,12 @@ pub fn put_decimal(out: &mut [u8], at: usize, n: u32) -> usize
 
 // m millionths with six decimals.
 fn put_millionths(out: &mut [u8], at: usize, m: u64) -> usize
-    requires { ⌜ (m / million < 2 ^ 32) × (at + length (millionths m) ≤ length (now out)) ⌝ }
+    requires { ⌜ at + length (millionths m) ≤ length (now out) ⌝ }
     ensures { λ r. ⌜ Wrote (millionths m) (now (out .entry)) at (now (out .exit)) r ⌝ }
 {
-    let i = put_decimal(out, at, (m / 1000000) as u32);
+    let i = put_decimal(out, at, m / 1000000);
     let j = put_byte(out, i, b'.');
-    put_six(out, j, (m % 1000000) as u32)
+    put_six(out, j, m % 1000000)
 }
 
 fn negated(z: i64) -> i64
@@ -124,7 +124,7 @@ fn magnitude(z: i64) -> u64
 }
 
 pub fn put_value(out: &mut [u8], at: usize, z: i64) -> usize
-    requires { ⌜ (natAbs z / million < 2 ^ 32) × (at + length (value z) ≤ length (now out)) ⌝ }
+    requires { ⌜ (natAbs z < 2 ^ 63) × (at + length (value z) ≤ length (now out)) ⌝ }
     ensures { λ r. ⌜ Wrote (value z) (now (out .entry)) at (now (out .exit)) r ⌝ }
 {
     let m = magnitude(z);

@@ -6,7 +6,8 @@ use mir.Syntax.{w64}
 use mir.Val.{Fits, toZ, ofZ}
 use mir.Facts.{toZ-ofZ}
 use borrow.Author.Needs.{needs, sfits-of}
-use Rattle.print.proofs.Signed.{natAbs-neg, neg-above, self-above}
+use Rattle.pose.proofs.Signed.{natAbs-neg}
+use Rattle.print.proofs.Signed.{neg-above, self-above}
 use Rattle.print.proofs.magnitude.Statement.{statement}
 use Rattle.print.proofs.magnitude.Tie as tie
 

@@ -6,17 +6,11 @@ use borrow.Author.Needs.{needs}
 use Rattle.print.proofs.put_millionths.Statement.{statement}
 use Rattle.print.proofs.put_millionths.Tie as tie
 
-cast-put-decimal : tie.Need-cast-put-decimal
-cast-put-decimal c = search needs
-
 put-decimal-requires : tie.Need-put-decimal-requires
 put-decimal-requires c κs = omega (arith, length-millionths (c .before .before .args .m))
 
 put-byte-requires : tie.Need-put-byte-requires
 put-byte-requires c κs = let d = c .before .before .before in omega (arith, length-millionths (d .before .before .before .args .m))
-
-cast-put-six : tie.Need-cast-put-six
-cast-put-six c = search needs
 
 put-six-requires : tie.Need-put-six-requires
 put-six-requires c κs =
@@ -39,10 +33,8 @@ pub put-millionths-spec : {M : Type 1} → statement M
 put-millionths-spec =
     tie.close
     (tie.spec
-    cast-put-decimal
     put-decimal-requires
     put-byte-requires
-    cast-put-six
     put-six-requires
     same-length
     returns)

@@ -38,7 +38,7 @@ put-millionths-requires : tie.Need-put-millionths-requires
 put-millionths-requires c κs =
     let p = c .before .before .before in
     let t = p .before .before in
-    (omega (arith, size (t .before)), omega (arith, ap length (below t)))
+    omega (arith, ap length (below t))
 
 same-length : tie.Need-same-length
 same-length c = search needs
@@ -50,7 +50,7 @@ returns c =
     rw (below (p .before .before)) (wrote-then (p .put-byte .ensures) (m .put-millionths .ensures))
 
 put-millionths-requires-2 : tie.Need-put-millionths-requires-2
-put-millionths-requires-2 c κs = (omega (arith, size (c .before .before)), omega (arith, ap length (above (c .before))))
+put-millionths-requires-2 c κs = omega (arith, ap length (above (c .before)))
 
 same-length-2 : tie.Need-same-length-2
 same-length-2 c = search needs

@@ -1,0 +1,7 @@
+pub mod Walks
+pub mod Copies
+pub mod Used
+pub mod Same
+pub mod Laid
+pub mod Reaching
+pub mod Ready

@@ -1,0 +1,93 @@
+-- From a well-formed memory to what the walk asks, and from what the walk gives back to the memory's own resultants.
+use Prim.Native.Nat.{ℕ, zero, suc, _*_, _≤_, _<_}
+use mathlib.Core.Path.{_≡_, refl, sym, ap, subst, _∙_}
+use mathlib.Core.Bool.{true, not, _&&_}
+use mathlib.Core.List.{List}
+use native.Mathlib.Omega.{arith}
+use native.Mathlib.Decide.{decLt}
+use borrow.Author.Tests.{leb-true}
+use lib.IntN.{ℤ, natAbs}
+use lib.ListN.{length, length-map, List·getD-map}
+use Rattle.model.specs.Limits.{maxSystems, offsetLimit}
+use Rattle.model.specs.declared.Vec3.{Vec3}
+use Rattle.model.specs.Words.{legalName, reserved, offset?}
+use Rattle.model.specs.Memory.{System, Memory, systemAt, blank}
+use Rattle.model.specs.WellFormed.{memoryFine, offsetsFine, turnsFine}
+use Rattle.model.proofs.Basics.{and-split}
+use Rattle.model.proofs.Fine.{Systems, ownFine, fine-of, preds-within, blank-beyond}
+use Rattle.pose.specs.Poses.{Within}
+use Rattle.pose.proofs.Bounds.{within-origin}
+use Rattle.chains.specs.Flat.{predsOf}
+use Rattle.chains.specs.Frames.{frameOf, framesOf, framed}
+use Rattle.chains.specs.Walk.{walked, Walkable, Laid, Enough}
+use Rattle.chains.proofs.Same.{frames-steps, frames-no-ring, frames-resultant}
+use Rattle.chains.proofs.Reaching.{few-steps}
+
+-- ---- a well-formed memory can be walked
+
+offset-in : (z : ℤ) → offset? z ≡ true → natAbs z ≤ offsetLimit
+unfolding offset?
+offset-in z e = leb-true (natAbs z) offsetLimit e
+
+offsets-in : (t : Vec3) → offsetsFine t ≡ true → Within offsetLimit t
+offsets-in t e =
+    let a = and-split (offset? (t .x) && offset? (t .y)) (offset? (t .z)) e in
+    let b = and-split (offset? (t .x)) (offset? (t .y)) (a .0) in
+    record { x-within = offset-in (t .x) (b .0); y-within = offset-in (t .y) (b .1); z-within = offset-in (t .z) (a .1) }
+
+own-offsets : (s : System) → ownFine s ≡ true → Within offsetLimit (s .offset)
+own-offsets s e =
+    let named = legalName (s .name) && not (reserved (s .name)) in
+    let a = and-split (named && offsetsFine (s .offset) && turnsFine (s .turns)) _ e in
+    let b = and-split (named && offsetsFine (s .offset)) (turnsFine (s .turns)) (a .0) in
+    offsets-in (s .offset) (and-split named (offsetsFine (s .offset)) (b .0) .1)
+
+-- where no system stands, the offsets are 0
+offsets-at : (l : List System) → Systems l → (q : ℕ) → Within offsetLimit (systemAt l q .offset)
+unfolding systemAt
+offsets-at l f zero = within-origin offsetLimit
+offsets-at l f (suc i) = go (decLt (length l) (suc i))
+  where
+    go : Dec (length l < suc i) → Within offsetLimit (systemAt l (suc i) .offset)
+    go (yes h) = rw (blank-beyond l (suc i) h) (within-origin offsetLimit)
+    go (no h) = own-offsets (systemAt l (suc i)) (f .own (suc i) (omega arith, omega arith))
+
+pub walkable : (m : Memory) → memoryFine m ≡ true → Walkable (m .systems)
+walkable m e =
+    let f = fine-of m e in
+    record { few = f .systems .few; ringless = f .ringless; preds = preds-within (f .systems); offsets = offsets-at (m .systems) (f .systems) }
+
+-- ---- its frames too, and flat numbers that stand for them
+
+frame-at : (l : List System) (q : ℕ) → systemAt (framesOf l) q ≡ frameOf (systemAt l q)
+unfolding systemAt
+frame-at l zero = refl
+frame-at l (suc i) = List·getD-map frameOf l i blank
+
+walkable-frames : (l : List System) → Walkable l → Walkable (framesOf l)
+walkable-frames l w =
+    let n : length (framesOf l) ≡ length l = length-map l frameOf in
+    record {
+      few = omega (arith, w .few);
+      ringless = frames-no-ring l ∙ w .ringless;
+      preds = λ q. rw (frame-at l q) (omega (arith, w .preds q));
+      offsets = λ q. rw (frame-at l q) (w .offsets q);
+    }
+
+module _ (l : List System) (w : Walkable l) (xs : List ℤ) (ts ps : List ℕ) (links : ps ≡ predsOf l) (frames : framed xs ts (predsOf l) ≡ framesOf l) where
+  stands : framed xs ts ps ≡ framesOf l
+  stands = ap (framed xs ts) links ∙ frames
+
+  pub ready : length l * 3 ≤ length xs → length l * 3 ≤ length ts → Laid xs ts ps
+  ready hx ht =
+      let n : length ps ≡ length l = ap length links ∙ length-map l (λ (s : System). s .pred) in
+      record { offsets = omega arith; turns = omega arith; systems = subst Walkable (sym stands) (walkable-frames l w) }
+
+  pub ready-at : (q : ℕ) → q ≤ length l → Enough (framed xs ts ps) q maxSystems
+  ready-at q h =
+      let n : length (framesOf l) ≡ length l = length-map l frameOf in
+      subst (λ (k : List System). Enough k q maxSystems) (sym stands)
+      (record { there = omega arith; deep = rw (frames-steps l q) (few-steps l w q h); bounded = omega arith })
+
+  pub ready-walk : (q : ℕ) → walked (framed xs ts ps) q ≡ walked l q
+  ready-walk q = rw stands (λ d. record { pose = frames-resultant l q d; steps = frames-steps l q d })

@@ -1,0 +1,77 @@
+use Prim.Native.Nat.{ℕ, _-_, min, _≤_}
+use mathlib.Core.Path.{_≡_, refl, sym, ap, _∙_}
+use mathlib.Core.List.{List, map}
+use native.Mathlib.Omega.{arith}
+use borrow.Author.Needs.{needs}
+use lib.ListN.{length, take, length-set}
+use Rattle.model.specs.declared.System.{System as StoredSystem}
+use Rattle.model.specs.Stored.{systemOf}
+use Rattle.chains.specs.Flat.{predsOf}
+use Rattle.model.specs.Limits.{maxSystems}
+use Rattle.chains.proofs.Copies.{length-mapped, take-min, predsBefore, one-more}
+use Rattle.chains.proofs.links.links_of.Statement.{statement}
+use Rattle.chains.proofs.links.links_of.Tie as tie
+
+-- the places of the systems passed are copied
+abbrev Inv-loop : tie.InvT-loop
+Inv-loop m count preds₀ i₀ preds i = (i ≤ count) × (length preds ≡ maxSystems) × (take i preds ≡ predsBefore (m .systems) i)
+
+abbrev μ-loop : tie.MeasureT-loop
+μ-loop m count preds₀ i₀ preds i = count - i
+
+held-requires : tie.Need-held-requires Inv-loop μ-loop
+held-requires c κs = tt
+
+loop-holds : tie.Need-loop-holds Inv-loop μ-loop
+loop-holds c = (omega arith, refl, refl)
+
+mul-preds : tie.Need-mul-preds Inv-loop μ-loop
+mul-preds c = omega arith
+
+element-copy-out-preds : tie.Need-element-copy-out-preds Inv-loop μ-loop
+element-copy-out-preds c = omega arith
+
+array-write-preds : tie.Need-array-write-preds Inv-loop μ-loop
+array-write-preds c = omega arith
+
+add-i : tie.Need-add-i Inv-loop μ-loop
+add-i c = omega arith
+
+loop-less : tie.Need-loop-less Inv-loop μ-loop
+loop-less c = omega arith
+
+loop-again : tie.Need-loop-again Inv-loop μ-loop
+loop-again c =
+    let w = c .before .loop in
+    let m = c .before .before .before .args .t1 in
+    let h : length (m .systems) ≡ 16 = search (length-mapped, needs) in
+    (omega arith, simp length-set (w .inv .1), one-more (m .systems) (w .preds) (w .i) _ (omega arith) (omega arith) (w .inv .2))
+
+returns : tie.Need-returns Inv-loop μ-loop
+returns c =
+    let w = c .before .loop in
+    let m = c .before .before .before .args .t1 in
+    let h : length (m .systems) ≡ 16 = search (length-mapped, needs) in
+    let e : w .i ≡ min (m .count) maxSystems = omega (arith, c .before .before .held .ensures) in
+    record {
+      links =
+          ap (λ (n : ℕ). take n (w .preds)) (c .before .before .held .ensures ∙ sym e) ∙ w .inv .2 ∙
+          ap (λ (l : List StoredSystem). predsOf (map systemOf l)) (ap (λ (n : ℕ). take n (m .systems)) e ∙ take-min (m .count) maxSystems (m .systems) h);
+      few = omega (arith, c .before .before .held .ensures);
+    }
+
+pub links-of-spec : {M : Type 1} → statement M
+links-of-spec =
+    tie.close
+    (tie.spec
+    Inv-loop
+    μ-loop
+    held-requires
+    loop-holds
+    mul-preds
+    element-copy-out-preds
+    array-write-preds
+    add-i
+    loop-less
+    loop-again
+    returns)

@@ -1,0 +1,53 @@
+-- What the walk to the predecessor needs and what it reaches.
+use Prim.Native.Nat.{ℕ, _+_, _*_, _≤_}
+use mathlib.Core.Path.{_≡_}
+use mathlib.Core.Bool.{true}
+use mathlib.Core.List.{List}
+use lib.IntN.{ℤ}
+use lib.ListN.{length}
+use Rattle.model.specs.Limits.{maxSystems, offsetLimit}
+use Rattle.model.specs.Pose.{Pose, rotOf}
+use Rattle.model.specs.Memory.{System, systemAt}
+use Rattle.model.specs.Chain.{steps, noRing, resultant}
+use Rattle.pose.specs.Poses.{poseOf, Within}
+use Rattle.chains.specs.declared.frames.Reached.{Reached}
+use Rattle.chains.specs.Frames.{offsetAt, turnsAt, framed}
+
+-- a resultant, and the number of links to it
+pub record Walk : Type 0 where
+  pub pose : Pose
+  pub steps : ℕ
+
+abbrev pub walkOf : Reached → Walk
+walkOf r = record { pose = poseOf (r .pose); steps = r .steps }
+
+-- document 01's resultant and steps of the system at a place
+abbrev pub walked : List System → ℕ → Walk
+walked l place = record { pose = resultant l place; steps = steps l place }
+
+-- every chain ends, and no sum on the way grows too large. Every well-formed memory has it (`walkable` in proofs/Ready.antt)
+pub record Walkable (l : List System) : Type 0 where
+  pub few : length l ≤ maxSystems
+  pub ringless : noRing l ≡ true
+  pub preds : (place : ℕ) → systemAt l place .pred ≤ length l
+  pub offsets : (place : ℕ) → Within offsetLimit (systemAt l place .offset)
+
+-- the own pose of system i, counted from 0
+abbrev pub poseAt : List ℤ → List ℕ → ℕ → Pose
+poseAt xs ts i = record { at = offsetAt xs i; rot = rotOf (turnsAt ts i) }
+
+-- system i has its numbers
+abbrev pub Holds : List ℤ → List ℕ → ℕ → Type 0
+Holds xs ts i = (i * 3 + 3 ≤ length xs) × (i * 3 + 3 ≤ length ts)
+
+-- every system has its numbers, and a walk along them ends
+pub record Laid (xs : List ℤ) (ts ps : List ℕ) : Type 0 where
+  pub offsets : length ps * 3 ≤ length xs
+  pub turns : length ps * 3 ≤ length ts
+  pub systems : Walkable (framed xs ts ps)
+
+-- a place to walk from, and a depth that is enough for it
+pub record Enough (l : List System) (place depth : ℕ) : Type 0 where
+  pub there : place ≤ length l
+  pub deep : steps l place ≤ depth
+  pub bounded : depth ≤ maxSystems

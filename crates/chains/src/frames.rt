@@ -1,0 +1,92 @@
+// Frames: own offsets and turns beside the links, and the resultant that the walk along them reaches.
+use crate::links::held;
+use model::Memory;
+use model::Turns;
+use model::Vec3;
+use pose::Pose;
+ghost use mathlib.Core.Path.{_≡_};
+ghost use Prim.Native.Nat.{_≤_};
+ghost use Rattle.model.specs.Limits.{maxSystems};
+ghost use Rattle.model.specs.Stored.{systemsOf};
+ghost use Rattle.pose.specs.Poses.{poseOf};
+ghost use Rattle.chains.specs.Flat.{predsOf};
+ghost use Rattle.chains.specs.Frames.{framed, framesOf};
+ghost use Rattle.chains.specs.Walk.{walkOf, walked, poseAt, Holds, Laid, Enough};
+
+// Own offsets and turns, three numbers to a system.
+pub struct Frames {
+    pub offsets: [i64; 48],
+    pub turns: [u8; 48],
+}
+
+// The frames of a memory. Its links are the other half of what a walk needs.
+pub fn frames_of(m: Memory) -> Frames
+    ensures { λ r. ⌜ framed (r .offsets) (r .turns) (predsOf (systemsOf m)) ≡ framesOf (systemsOf m) ⌝ }
+{
+    let count = held(m.count);
+    let mut offsets = [0i64; 48];
+    let mut turns = [0u8; 48];
+    let mut i = 0;
+    while i < count {
+        let s = m.systems[i];
+        let t = s.offset;
+        let u = s.turns;
+        let at = i * 3;
+        let x = t.x;
+        let y = t.y;
+        let z = t.z;
+        offsets[at] = x;
+        offsets[at + 1] = y;
+        offsets[at + 2] = z;
+        turns[at] = u.u;
+        turns[at + 1] = u.v;
+        turns[at + 2] = u.w;
+        i += 1;
+    }
+    Frames { offsets, turns }
+}
+
+// What a walk has reached: the resultant, and how many links it followed.
+pub struct Reached {
+    pub pose: Pose,
+    pub steps: u8,
+}
+
+// The own pose of system i, counted from 0.
+fn own(offsets: &[i64], turns: &[u8], i: usize) -> Pose
+    requires { ⌜ Holds (now offsets) (now turns) i ⌝ }
+    ensures { λ r. ⌜ poseOf r ≡ poseAt (now (offsets .entry)) (now (turns .entry)) i ⌝ }
+{
+    let at = i * 3;
+    let x = offsets[at];
+    let y = offsets[at + 1];
+    let z = offsets[at + 2];
+    let u = turns[at];
+    let v = turns[at + 1];
+    let w = turns[at + 2];
+    let t = Vec3 { x, y, z };
+    let s = Turns { u, v, w };
+    Pose::of(t, s)
+}
+
+// The resultant of a place and its steps, by a walk to its predecessor with one link less of depth. For a well-formed
+// memory a depth of 16 is enough.
+pub fn reach(offsets: &[i64], turns: &[u8], preds: &[u8], place: usize, depth: usize) -> Reached
+    requires { ⌜ Laid (now offsets) (now turns) (now preds) ⌝ }
+    requires { ⌜ Enough (framed (now offsets) (now turns) (now preds)) place depth ⌝ }
+    ensures { λ r. ⌜ walkOf r ≡ walked (framed (now (offsets .entry)) (now (turns .entry)) (now (preds .entry))) place ⌝ }
+    ensures { λ r. ⌜ r .steps ≤ maxSystems ⌝ }
+{
+    if place == 0 {
+        let pose = Pose::NEUTRAL;
+        return Reached { pose, steps: 0 };
+    }
+    let i = place - 1;
+    let pred = preds[i] as usize;
+    let before = reach(offsets, turns, preds, pred, depth - 1);
+    let own_pose = own(offsets, turns, i);
+    let so_far = before.pose;
+    let pose = so_far.follow(own_pose);
+    let steps = before.steps + 1;
+    Reached { pose, steps }
+}

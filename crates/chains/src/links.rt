@@ -1,0 +1,145 @@
+// The links of a memory: what the questions of ring, chain and use look at.
+use model::Enabled;
+use model::Memory;
+use model::OperatingPart;
+ghost use mathlib.Core.Path.{_≡_};
+ghost use Prim.Native.Nat.{min};
+ghost use lib.Dec.{eqb};
+ghost use lib.ListN.{length};
+ghost use Rattle.model.specs.Limits.{maxSystems};
+ghost use Rattle.model.specs.Chain.{predOf, hop, onChain, noRing};
+ghost use Rattle.model.specs.Use.{inUse, operatingPlaces};
+ghost use Rattle.model.specs.Lists.{any};
+ghost use Rattle.model.specs.Stored.{systemsOf};
+ghost use Rattle.chains.specs.Flat.{linkedBy, LinksOf, memoryBy, usedBy};
+
+// The predecessors' places of the first count systems.
+pub struct Links {
+    pub preds: [u8; 16],
+    pub count: usize,
+}
+
+// How many systems a memory has: a count beyond the array means the whole array.
+pub fn held(count: u8) -> usize
+    ensures { λ r. ⌜ r ≡ min count maxSystems ⌝ }
+{
+    if count < 16 { count as usize } else { 16 }
+}
+
+// The links of a memory, whatever it holds: a predecessor's place may lie beyond the last system.
+pub fn links_of(m: Memory) -> Links
+    ensures { λ r. ⌜ LinksOf (systemsOf m) (r .preds) (r .count) ⌝ }
+{
+    let count = held(m.count);
+    let mut preds = [0u8; 16];
+    let mut i = 0;
+    while i < count {
+        preds[i] = m.systems[i].pred;
+        i += 1;
+    }
+    Links { preds, count }
+}
+
+// The place one link on; beyond the last system, and from the fixed one, that is place 0.
+pub fn pred_of(preds: &[u8], place: usize) -> usize
+    ensures { λ r. ⌜ r ≡ predOf (linkedBy (now (preds .entry))) place ⌝ }
+{
+    if place == 0 {
+        return 0;
+    }
+    let i = place - 1;
+    if i < preds.len() {
+        preds[i] as usize
+    } else {
+        0
+    }
+}
+
+// The chain from a place ends, in as many links as there are systems.
+fn ends(preds: &[u8], place: usize) -> bool
+    ensures { λ r. ⌜ r ≡ eqb (hop (linkedBy (now (preds .entry))) (length (now (preds .entry))) place) 0 ⌝ }
+{
+    let mut at = place;
+    let mut left = preds.len();
+    while 0 < left {
+        if at == 0 {
+            return true;
+        }
+        at = pred_of(preds, at);
+        left -= 1;
+    }
+    at == 0
+}
+
+// From no place do the links go round for ever.
+pub fn no_ring(preds: &[u8]) -> bool
+    ensures { λ r. ⌜ r ≡ noRing (linkedBy (now (preds .entry))) ⌝ }
+{
+    let mut place = 0;
+    while place <= preds.len() {
+        if !ends(preds, place) {
+            return false;
+        }
+        place += 1;
+    }
+    true
+}
+
+// Place a is on the chain of place q.
+pub fn on_chain(preds: &[u8], a: usize, q: usize) -> bool
+    ensures { λ r. ⌜ r ≡ onChain (linkedBy (now (preds .entry))) a q ⌝ }
+{
+    let mut at = q;
+    let mut more = preds.len() + 1;
+    while 0 < more {
+        if at == 0 {
+            return false;
+        }
+        at = pred_of(preds, at);
+        if a == at {
+            return true;
+        }
+        more -= 1;
+    }
+    false
+}
+
+// Place k is the enabled place q, or on its chain.
+fn used_by(preds: &[u8], k: usize, q: u8) -> bool
+    ensures { λ r. ⌜ r ≡ usedBy (now (preds .entry)) k q ⌝ }
+{
+    let at = q as usize;
+    if k == at {
+        return true;
+    }
+    on_chain(preds, k, at)
+}
+
+// The operating part, the work half before the tool half.
+fn used_operating(part: OperatingPart, preds: &[u8], k: usize) -> bool
+    ensures { λ r. ⌜ r ≡ any (usedBy (now (preds .entry)) k) (operatingPlaces part) ⌝ }
+{
+    match part {
+        OperatingPart::Single(p) => used_by(preds, k, p),
+        OperatingPart::Pair(w, t) => {
+            if used_by(preds, k, w) {
+                return true;
+            }
+            used_by(preds, k, t)
+        }
+    }
+}
+
+// Place k is in use. The enabled ones are tried in the order of KEN?, and the first hit ends it.
+pub fn in_use(enabled: Enabled, preds: &[u8], k: usize) -> bool
+    ensures { λ r. ⌜ r ≡ inUse (memoryBy (now (preds .entry)) enabled) k ⌝ }
+{
+    let part = enabled.operating;
+    if used_operating(part, preds, k) {
+        return true;
+    }
+    if used_by(preds, k, enabled.orientational) {
+        return true;
+    }
+    used_by(preds, k, enabled.levelling)
+}

@@ -1,0 +1,120 @@
+-- Define, link and copy keep a memory well formed, each under what its ladder has ruled out.
+use Prim.Native.Nat.{ℕ, zero, suc, _≤_, _<_}
+use mathlib.Core.Path.{_≡_, refl, sym, ap, _∙_}
+use mathlib.Core.List.{List}
+use mathlib.Core.Bool.{Bool, true, false, not, _&&_, _||_}
+use native.Mathlib.Omega.{arith}
+use borrow.Author.Tests.{not-false, ne-eqb}
+use lib.Dec.{eqb}
+use lib.ListN.{length}
+use Rattle.model.specs.Types.{Kind, Ksd, Kst, Ksw, Ksb, Kld, Group, Operating, Orientational, Levelling, Vec3, Turns}
+use Rattle.model.specs.Lists.{same}
+use Rattle.model.specs.Kinds.{ofKind, sameKind, sameGroup}
+use Rattle.model.specs.Memory.{System, Memory, systemAt, isUser, placeNamed, named, userNamed}
+use Rattle.model.specs.Chain.{predOf, hop, onChain}
+use Rattle.model.specs.Words.{legalName, reserved}
+use Rattle.model.specs.WellFormed.{offsetsFine, turnsFine, noOffset}
+use Rattle.model.specs.Use.{nameInUse}
+use Rattle.model.specs.Refusals.{wrongPred, otherType, atOrBefore, noRoom}
+use Rattle.model.specs.Effects.{put, firstPred, fresh, linked, withPred, withName}
+use Rattle.model.proofs.Basics.{and-split, and-join, or-false, true-false, ≡→same}
+use Rattle.model.proofs.Hops.{hop-next}
+use Rattle.model.proofs.Relink.{Misses}
+use Rattle.model.proofs.Fine.{Placed, ownFine, Fine, same-kind}
+use Rattle.model.proofs.Named.{place-stands, place-name, place-within, user-place, named-place}
+use Rattle.model.proofs.Unused.{Unused, unused-named, off-missed, zero-missed}
+use Rattle.model.proofs.Putting.{put-fine}
+
+-- ---- what a ladder's tests say
+
+module _ (m : Memory) (fine : Fine m) where
+  -- number 10: a name to be overwritten has the type
+  kind-kept : (n : List ℕ) (k : Kind) → otherType m n k ≡ false → isUser m n ≡ true → k ≡ userNamed m n .kind
+  unfolding otherType
+  kind-kept n k e u = sym (same-kind (userNamed m n .kind) k (not-false (sameKind (userNamed m n .kind) k) (rw u at e)))
+
+  -- number 12: the chain of b, with b itself, does not meet a
+  not-before : (a b : List ℕ) → atOrBefore m a b ≡ false → isUser m a ≡ true → Misses (m .systems) (placeNamed (m .systems) a) (named m b .place)
+  unfolding atOrBefore
+  not-before a b e u =
+      let l = m .systems in
+      let pos = user-place m a u in
+      let s = or-false (same a b) (onChain l (placeNamed l a) (named m b .place)) (rw u at e) in
+      let np = named-place m b in
+      off-missed m fine (placeNamed l a) pos (named m b .place) (rw np (place-within l b)) (λ q. apart (sym np ∙ q) (s .0) pos) (s .1)
+    where
+      apart : placeNamed (m .systems) b ≡ placeNamed (m .systems) a → same a b ≡ false → 0 < placeNamed (m .systems) a → ⊥
+      apart q d pos =
+          let na = place-name (m .systems) a pos in
+          let nb = place-name (m .systems) b (omega arith) in
+          true-false (sym (≡→same (sym na ∙ ap (λ k. systemAt (m .systems) k .name) (sym q) ∙ nb)) ∙ d)
+
+  -- ---- define
+
+  first-placed : (k : Kind) → Placed (m .systems) k (firstPred (m .enabled) (ofKind k .group))
+  first-placed Ksd h = absurd (omega arith)
+  first-placed Kst h = absurd (omega arith)
+  first-placed Ksw h = absurd (omega arith)
+  first-placed Ksb h = fine .enabled .orientational h
+  first-placed Kld h = fine .enabled .levelling h
+
+  first-missed : (a : ℕ) → 0 < a → Unused (m .systems) a (m .enabled) → (g : Group) → Misses (m .systems) a (firstPred (m .enabled) g)
+  first-missed a pos u Operating = zero-missed m fine a pos
+  first-missed a pos u Orientational = u .orientational
+  first-missed a pos u Levelling = u .levelling
+
+  module _ (k : Kind) (n : List ℕ) (t : Vec3) (v : Turns) where
+    pub define-fine : ownFine (fresh m k n t v) ≡ true → otherType m n k ≡ false → nameInUse m n ≡ false → noRoom m n ≡ false → Fine (put m (fresh m k n t v))
+    unfolding fresh
+    define-fine own ten eleven thirteen =
+        put-fine m fine (fresh m k n t v) own (first-placed k)
+        (λ u. (kind-kept n k ten u, first-missed (placeNamed (m .systems) n) (user-place m n u) (unused-named m fine n u eleven) (ofKind k .group)))
+        thirteen
+
+  -- ---- link
+
+  module _ (a b : List ℕ) (user : isUser m a ≡ true) where
+    -- number 10: B is of A's type or its group's fixed system
+    right-pred : wrongPred m a b ≡ false → Placed (m .systems) (userNamed m a .kind) (named m b .place)
+    unfolding wrongPred
+    right-pred e h =
+        let np = named-place m b in
+        let z : eqb (named m b .place) 0 ≡ false = ne-eqb (named m b .place) 0 (λ q. omega arith) in
+        (rw np (place-within (m .systems) b), rw np (same-kind (userNamed m b .kind) (userNamed m a .kind) (not-false _ (rw z at e))))
+
+    pub link-fine : wrongPred m a b ≡ false → atOrBefore m a b ≡ false → Fine (linked m a b)
+    unfolding linked noRoom
+    link-fine ten twelve =
+        let pos = user-place m a user in
+        let na = place-name (m .systems) a pos in
+        put-fine m fine (withPred (userNamed m a) (named m b .place)) (fine .systems .own (placeNamed (m .systems) a) (place-stands (m .systems) a pos)) (right-pred ten)
+        (λ u. rw na (refl, not-before a b twelve user))
+        (rw (na, user))
+
+  -- ---- copy
+
+  -- a place before which q's chain does not come is not met from q's predecessor either
+  pred-missed : (k q : ℕ) → Misses (m .systems) k q → Misses (m .systems) k (systemAt (m .systems) q .pred)
+  unfolding predOf systemAt
+  pred-missed k q off i e = off (suc i) (hop-next (m .systems) i q ∙ rw (pred-at q) e)
+    where
+      pred-at : (q : ℕ) → predOf (m .systems) q ≡ systemAt (m .systems) q .pred
+      pred-at zero = refl
+      pred-at (suc i) = refl
+
+  module _ (s d : List ℕ) (user : isUser m s ≡ true) where
+    own-copied : (x : System) → ownFine x ≡ true → legalName d ≡ true → reserved d ≡ false → ownFine (withName x d) ≡ true
+    own-copied x own legal free =
+        let a = and-split (legalName (x .name) && not (reserved (x .name)) && offsetsFine (x .offset) && turnsFine (x .turns)) _ own in
+        let b = and-split (legalName (x .name) && not (reserved (x .name)) && offsetsFine (x .offset)) (turnsFine (x .turns)) (a .0) in
+        let c = and-split (legalName (x .name) && not (reserved (x .name))) (offsetsFine (x .offset)) (b .0) in
+        and-join (and-join (and-join (and-join legal (ap not free)) (c .1)) (b .1)) (a .1)
+
+    pub copy-fine : legalName d ≡ true → reserved d ≡ false → otherType m d (userNamed m s .kind) ≡ false → atOrBefore m d s ≡ false → noRoom m d ≡ false → Fine (put m (withName (userNamed m s) d))
+    copy-fine legal eight ten twelve thirteen =
+        let pos = user-place m s user in
+        let np = named-place m s in
+        put-fine m fine (withName (userNamed m s) d) (own-copied (userNamed m s) (fine .systems .own (placeNamed (m .systems) s) (place-stands (m .systems) s pos)) legal eight)
+        (fine .systems .preds (placeNamed (m .systems) s))
+        (λ u. (kind-kept d (userNamed m s .kind) ten u, pred-missed (placeNamed (m .systems) d) (placeNamed (m .systems) s) (rw np at (not-before d s twelve u))))
+        thirteen

@@ -1,0 +1,80 @@
+-- The number of a call is exact: the first that applies, and only if one does.
+use Prim.Native.Nat.{ℕ, _≤_}
+use mathlib.Core.Path.{_≡_, refl, sym, ap, _∙_}
+use mathlib.Core.Bool.{Bool, true, false}
+use mathlib.Core.List.{List}
+use mathlib.Core.Option.{Option, none, some}
+use mathlib.Core.Logic.{⊎-elim, _↔_}
+use native.Mathlib.Omega.{arith}
+use Rattle.model.specs.Memory.{Memory, State, started}
+use Rattle.model.specs.WellFormed.{wellFormed}
+use Rattle.model.specs.Refusals.{refusal, first, ladder, short}
+use Rattle.model.specs.Image.{accepted}
+use Rattle.model.specs.Machine.{Outcome, Begun, began, stepped, restart, writeImage, startFactory, startImage}
+use Rattle.model.specs.Claims.{applies, FirstToApply, NumberExact, OtherNumbersExact}
+use Rattle.model.proofs.Basics.{either, true-false}
+use Rattle.model.proofs.Ladder.{ladder-ascends, ladder-largest, none-applies, first-applies, first-only, first-above, first-zero}
+use Rattle.model.proofs.Refusing.{step-ill, step-number, refusal-range, restart-ill, restart-fine, image-ill, image-short, image-fine}
+
+-- ---- a line
+
+module _ (st : State) (line b : List ℕ) where
+  one-exact : stepped st line b .number ≡ 1 ↔ wellFormed st ≡ false
+  one-exact = (λ e. ⊎-elim (λ w. absurd (never w e)) (λ w. w) (either (wellFormed st)), λ w. ap (λ (o : Outcome). o .number) (step-ill st line b w))
+    where
+      never : wellFormed st ≡ true → stepped st line b .number ≡ 1 → ⊥
+      never w e = let n = step-number st line b w in let r = refusal-range st line b (λ z. omega arith) in omega arith
+
+  module _ (w : wellFormed st ≡ true) where
+    others-exact : (n : ℕ) → 2 ≤ n → stepped st line b .number ≡ n ↔ FirstToApply n (ladder st line b)
+    unfolding refusal
+    others-exact n h =
+        let s = step-number st line b w in
+        let a = ladder-ascends st line b in
+        (λ e. rw (← e, s) (first-applies (ladder st line b) 1 a (λ z. omega arith)), λ f. s ∙ first-only (ladder st line b) 1 a n f)
+
+    taken-exact : stepped st line b .number ≡ 0 ↔ ((n : ℕ) → applies n (ladder st line b) ≡ false)
+    unfolding refusal
+    taken-exact =
+        let s = step-number st line b w in
+        let a = ladder-ascends st line b in
+        (λ e. none-applies (ladder st line b) 1 a (sym s ∙ e), λ f. s ∙ first-zero (ladder st line b) 1 a f)
+
+  pub number-exact : NumberExact st line b
+  number-exact =
+      record {
+        one = one-exact;
+        others = others-exact;
+        accepted = taken-exact;
+        ascends = ladder-ascends st line b;
+        largest = ladder-largest st line b;
+      }
+
+-- ---- a start from an image
+
+start-none : (bytes : List ℕ) → accepted bytes ≡ none → startImage bytes ≡ began startFactory 14
+unfolding startImage
+start-none bytes e = rw (e, startImage)
+
+pub start-some : (bytes : List ℕ) (m : Memory) → accepted bytes ≡ some m → startImage bytes ≡ began (started m) 0
+unfolding startImage
+start-some bytes m e = rw (e, startImage)
+
+start-exact : (bytes : List ℕ) → startImage bytes .number ≡ 14 ↔ accepted bytes ≡ none
+start-exact bytes = (λ e. go (accepted bytes) refl e, λ e. ap (λ (o : Begun). o .number) (start-none bytes e))
+  where
+    go : (o : Option Memory) → accepted bytes ≡ o → startImage bytes .number ≡ 14 → o ≡ none
+    go none q e = refl
+    go (some m) q e = absurd (let z = ap (λ (o : Begun). o .number) (start-some bytes m q) in omega arith)
+
+pub other-numbers-exact : OtherNumbersExact
+other-numbers-exact =
+    record {
+      restart-one = restart-ill;
+      restart-taken = λ st w. ap (λ (o : Begun). o .number) (restart-fine st w);
+      image-one = image-ill;
+      image-two = image-short;
+      image-taken = λ st b w s. ap (λ (o : Outcome). o .number) (image-fine st b w s);
+      start-refused = start-exact;
+      start-factory = start-none;
+    }

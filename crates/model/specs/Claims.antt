@@ -1,0 +1,81 @@
+-- What is claimed of every call, in the owners' words: a refusal changes nothing, its number is exact, and a well-formed state stays well formed.
+-- The statements only; proofs/ has the proofs (Refusing, Exact, Kept).
+use Prim.Native.Nat.{_≤_, _<_}
+use mathlib.Core.Path.{_≡_}
+use mathlib.Core.Logic.{_↔_}
+use Rattle.model.specs.Base.{ℕ, List, [], _∷_, Bool, true, false, _&&_, none, eqb, leb, ltb}
+use Rattle.model.specs.Lists.{all, any}
+use Rattle.model.specs.Limits.{largestNumber}
+use Rattle.model.specs.Memory.{State}
+use Rattle.model.specs.WellFormed.{wellFormed}
+use Rattle.model.specs.Refusals.{Rung, short, ladder}
+use Rattle.model.specs.Effects.{withError}
+use Rattle.model.specs.Image.{accepted}
+use Rattle.model.specs.Machine.{Outcome, refused, began, stepped, restart, writeImage, startFactory, startImage}
+use Rattle.model.specs.Trace.{Call, Line, afterCalls, afterLines}
+use Rattle.model.specs.Demand.{Start, startState}
+
+-- ---- refusals change nothing
+
+-- [Errors, end] both memories, the level and every byte of the buffer are as they were, and no length is told
+pub record Untouched (st : State) (b : List ℕ) (o : Outcome) : Type 0 where
+  pub volatile : o .state .volatile ≡ st .volatile
+  pub permanent : o .state .permanent ≡ st .permanent
+  pub level : o .state .level ≡ st .level
+  pub buffer : o .buffer ≡ b
+  pub count : o .count ≡ 0
+
+-- [Errors, end; Error 1] for every state, line and buffer. `lines` says it part by part, `one` and `others` give the state whole
+pub record RefusalsChangeNothing : Type 0 where
+  pub lines : (st : State) (line b : List ℕ) → (stepped st line b .number ≡ 0 → ⊥) → Untouched st b (stepped st line b)
+  pub one : (st : State) (line b : List ℕ) → stepped st line b .number ≡ 1 → stepped st line b .state ≡ st
+  pub others : (st : State) (line b : List ℕ) → 2 ≤ stepped st line b .number → stepped st line b .state ≡ withError st (stepped st line b .number)
+  pub restarts : (st : State) → (restart st .number ≡ 0 → ⊥) → restart st .state ≡ st
+  pub images : (st : State) (b : List ℕ) → (writeImage st b .number ≡ 0 → ⊥) → writeImage st b ≡ refused st (writeImage st b .number) b
+  pub image-keeps : (st : State) (b : List ℕ) → writeImage st b .state ≡ st
+
+-- ---- the number is exact
+
+-- [Errors] the ladder has number n, and its condition holds
+unfoldable pub applies : ℕ → List Rung → Bool
+applies n rungs = any (λ (r : Rung). eqb n (r .0) && r .1) rungs
+
+-- [Errors, end] n applies, and no smaller number does
+pub record FirstToApply (n : ℕ) (rungs : List Rung) : Type 0 where
+  pub itself : applies n rungs ≡ true
+  pub none-before : (k : ℕ) → k < n → applies k rungs ≡ false
+
+-- [Errors] every number is above the one before it; the first is above n
+unfoldable pub ascending : ℕ → List Rung → Bool
+ascending n [] = true
+ascending n (r ∷ rungs) = ltb n (r .0) && ascending (r .0) rungs
+
+-- [Errors, end; Memory 4] for every line and buffer: 1 exactly in a state that is not well formed; else the first number that applies, and only if one does
+pub record NumberExact (st : State) (line b : List ℕ) : Type 0 where
+  pub one : stepped st line b .number ≡ 1 ↔ wellFormed st ≡ false
+  pub others : wellFormed st ≡ true → (n : ℕ) → 2 ≤ n → stepped st line b .number ≡ n ↔ FirstToApply n (ladder st line b)
+  pub accepted : wellFormed st ≡ true → stepped st line b .number ≡ 0 ↔ ((n : ℕ) → applies n (ladder st line b) ≡ false)
+  pub ascends : ascending 1 (ladder st line b) ≡ true
+  pub largest : all (λ (r : Rung). leb (r .0) largestNumber) (ladder st line b) ≡ true
+
+-- [Image; Errors 1, 2, 14] the calls that are no lines: a restart meets only 1, writing only 1 and 2, a start only 14
+pub record OtherNumbersExact : Type 0 where
+  pub restart-one : (st : State) → wellFormed st ≡ false → restart st ≡ began st 1
+  pub restart-taken : (st : State) → wellFormed st ≡ true → restart st .number ≡ 0
+  pub image-one : (st : State) (b : List ℕ) → wellFormed st ≡ false → writeImage st b ≡ refused st 1 b
+  pub image-two : (st : State) (b : List ℕ) → wellFormed st ≡ true → short b ≡ true → writeImage st b ≡ refused st 2 b
+  pub image-taken : (st : State) (b : List ℕ) → wellFormed st ≡ true → short b ≡ false → writeImage st b .number ≡ 0
+  pub start-refused : (bytes : List ℕ) → startImage bytes .number ≡ 14 ↔ accepted bytes ≡ none
+  pub start-factory : (bytes : List ℕ) → accepted bytes ≡ none → startImage bytes ≡ began startFactory 14
+
+-- ---- well-formedness is kept
+
+-- [Memory 4; Two lists 1] by every call, from either start, and so by every list of calls
+pub record WellFormedKept : Type 0 where
+  pub line : (st : State) (bytes b : List ℕ) → wellFormed st ≡ true → wellFormed (stepped st bytes b .state) ≡ true
+  pub again : (st : State) → wellFormed st ≡ true → wellFormed (restart st .state) ≡ true
+  pub factory : wellFormed startFactory ≡ true
+  pub image : (bytes : List ℕ) → wellFormed (startImage bytes .state) ≡ true
+  pub calls : (st : State) (cs : List Call) → wellFormed st ≡ true → wellFormed (afterCalls st cs) ≡ true
+  pub lines : (st : State) (cs : List Line) → wellFormed st ≡ true → wellFormed (afterLines st cs) ≡ true
+  pub history : (start : Start) (first : List Call) (second : List Line) → wellFormed (afterLines (afterCalls (startState start) first) second) ≡ true

@@ -1,0 +1,84 @@
+-- What a well-formed stored memory gives the writers.
+use Prim.Native.Nat.{ℕ, zero, suc, _-_, min, _≤_, _<_}
+use mathlib.Core.Path.{_≡_, refl, sym, ap, _∙_}
+use mathlib.Core.Bool.{true, not, _&&_}
+use mathlib.Core.List.{List, map}
+use native.Mathlib.Omega.{arith}
+use borrow.Author.Tests.{leb-true}
+use lib.Dec.{leb}
+use lib.ListN.{length, getD, take, length-take}
+use lib.Seq.{getD-take}
+use Rattle.model.specs.Lists.{all}
+use Rattle.model.specs.Limits.{maxSystems, nameLimit, offsetLimit}
+use Rattle.model.specs.Memory.{System, systemAt}
+use Rattle.model.specs.Stored.{systemOf, systemsOf, memoryOf, nameShaped, memoryShaped}
+use Rattle.model.specs.Words.{legalName, reserved}
+use Rattle.model.specs.WellFormed.{offsetsFine, turnsFine, memoryFine}
+use Rattle.model.proofs.Basics.{and-split, all-at}
+use Rattle.model.proofs.Fine.{ownFine, fine-of, preds-within}
+use Rattle.pose.specs.Poses.{Within, Quarters, reach}
+use Rattle.pose.proofs.Bounds.{within-more}
+use Rattle.chains.specs.Walk.{Walkable}
+use Rattle.chains.proofs.Copies.{unset}
+use Rattle.chains.proofs.Laid.{stored-length, stored-at}
+use Rattle.chains.proofs.Ready.{walkable}
+use Rattle.reply.specs.Types.{Turns, StoredSystem, StoredMemory}
+use Rattle.reply.specs.Lines.{Writable}
+
+-- ---- the turns of a system
+
+turns-in : (t : Turns) → turnsFine t ≡ true → Quarters t
+turns-in t e =
+    let a = and-split (leb (t .u) 3 && leb (t .v) 3) (leb (t .w) 3) e in
+    let b = and-split (leb (t .u) 3) (leb (t .v) 3) (a .0) in
+    record {
+      u-below = omega (arith, leb-true (t .u) 3 (b .0));
+      v-below = omega (arith, leb-true (t .v) 3 (b .1));
+      w-below = omega (arith, leb-true (t .w) 3 (a .1));
+    }
+
+own-turns : (s : System) → ownFine s ≡ true → Quarters (s .turns)
+own-turns s e =
+    let before = legalName (s .name) && not (reserved (s .name)) && offsetsFine (s .offset) in
+    turns-in (s .turns) (and-split before (turnsFine (s .turns)) (and-split (before && turnsFine (s .turns)) _ e .0) .1)
+
+-- ---- a memory with shape that is well formed; long is what owning it tells
+
+module _ (m : StoredMemory) (shaped : memoryShaped m ≡ true) (long : length (m .systems) ≡ 16) where
+  parts : (leb (m .count) maxSystems ≡ true) × (all nameShaped (take (m .count) (m .systems)) ≡ true)
+  unfolding memoryShaped
+  parts = and-split (leb (m .count) maxSystems) (all nameShaped (take (m .count) (m .systems))) shaped
+
+  pub few : m .count ≤ 16
+  few = leb-true (m .count) maxSystems (parts .0)
+
+  pub count-is : length (systemsOf m) ≡ m .count
+  count-is = stored-length (m .systems) (m .count) ∙ omega (arith, few)
+
+  pub name-fits : (i : ℕ) → i < m .count → getD (m .systems) i unset .name .len ≤ nameLimit
+  name-fits i h =
+      let n : i < length (take (m .count) (m .systems)) = rw length-take (omega (arith, few)) in
+      let e = all-at nameShaped (take (m .count) (m .systems)) unset i (parts .1) n in
+      leb-true _ nameLimit (rw (getD-take (m .count) (m .systems) i unset h) at e)
+
+  -- the system at a place is the stored one before it
+  pub stands-at : (i : ℕ) → i < m .count → systemAt (systemsOf m) (suc i) ≡ systemOf (getD (m .systems) i unset)
+  unfolding systemAt
+  stands-at i h = stored-at (m .systems) (m .count) i h
+
+  module _ (fine : memoryFine (memoryOf m) ≡ true) where
+    pub pred-fits : (i : ℕ) → i < m .count → getD (m .systems) i unset .pred ≤ m .count
+    pred-fits i h =
+        let p = preds-within (fine-of (memoryOf m) fine .systems) (suc i) in
+        omega (arith, p, ap (λ (s : System). s .pred) (stands-at i h), count-is)
+
+    pub writable : (i : ℕ) → i < m .count → Writable (getD (m .systems) i unset)
+    writable i h =
+        let s = getD (m .systems) i unset in
+        let f = fine-of (memoryOf m) fine .systems in
+        let w = walkable (memoryOf m) fine .offsets (suc i) in
+        record {
+          name-fits = name-fits i h;
+          offsets-fit = within-more offsetLimit reach (s .offset) (omega arith) (rw (stands-at i h) at w);
+          turns-fit = rw (stands-at i h) at (own-turns (systemAt (systemsOf m) (suc i)) (f .own (suc i) (omega arith, omega (arith, count-is))));
+        }

@@ -1,0 +1,92 @@
+// KEN?: one operating system, or work and tool; then the other two groups.
+use crate::lines::put_enabled;
+use crate::lines::put_further_enabled;
+use crate::slot;
+use model::Enabled;
+use model::Group;
+use model::Memory;
+use model::OperatingPart;
+use model::System;
+use print::put_byte;
+ghost use mathlib.Core.Path.{_≡_};
+ghost use Prim.Native.Nat.{_+_, _≤_, _<_};
+ghost use lib.ListN.{length};
+ghost use Rattle.model.specs.Limits.{nameLimit};
+ghost use Rattle.model.specs.Stored.{systemOf, memoryOf};
+ghost use Rattle.model.specs.Request.{enabledOnes};
+ghost use Rattle.model.specs.Reply.{listed};
+ghost use Rattle.print.specs.Over.{Wrote};
+ghost use Rattle.reply.specs.Lines.{Ready, Replied};
+ghost use Rattle.reply.specs.EnabledText.{firstPlace, toolPlace, pair?, toolText, groupsText, GroupsFit};
+
+// The one operating place, or the work half's.
+fn first_place(part: OperatingPart) -> u8
+    ensures { λ r. ⌜ r ≡ firstPlace part ⌝ }
+{
+    match part {
+        OperatingPart::Single(p) => p,
+        OperatingPart::Pair(work, _) => work,
+    }
+}
+
+fn tool_place(part: OperatingPart) -> u8
+    ensures { λ r. ⌜ r ≡ toolPlace part ⌝ }
+{
+    match part {
+        OperatingPart::Single(_) => 0,
+        OperatingPart::Pair(_, tool) => tool,
+    }
+}
+
+fn is_pair(part: OperatingPart) -> bool
+    ensures { λ r. ⌜ r ≡ pair? part ⌝ }
+{
+    match part {
+        OperatingPart::Single(_) => false,
+        OperatingPart::Pair(_, _) => true,
+    }
+}
+
+// The tool's line, where a pair is enabled.
+fn put_tool(reply: &mut [u8], at: usize, part: OperatingPart, s: System) -> usize
+    requires { ⌜ (0 < toolPlace part → s .name .len ≤ nameLimit) × (at + length (toolText part (systemOf s)) ≤ length (now reply)) ⌝ }
+    ensures { λ r. ⌜ Wrote (toolText part (systemOf s)) (now (reply .entry)) at (now (reply .exit)) r ⌝ }
+{
+    if !is_pair(part) {
+        return at;
+    }
+    let place = tool_place(part);
+    let n = put_further_enabled(&mut reply[at..], Group::Operating, place, s);
+    at + n
+}
+
+// The lines of the other two groups, o and l where they are user systems, and the end of the last.
+fn put_groups(reply: &mut [u8], at: usize, e: Enabled, o: System, l: System) -> usize
+    requires { ⌜ GroupsFit e o l × (at + length (groupsText e (systemOf o) (systemOf l)) ≤ length (now reply)) ⌝ }
+    ensures { λ r. ⌜ Wrote (groupsText e (systemOf o) (systemOf l)) (now (reply .entry)) at (now (reply .exit)) r ⌝ }
+{
+    let n = put_further_enabled(&mut reply[at..], Group::Orientational, e.orientational, o);
+    let next = at + n;
+    let last = put_further_enabled(&mut reply[next..], Group::Levelling, e.levelling, l);
+    put_byte(reply, next + last, b'\n')
+}
+
+pub fn enabled(m: Memory, reply: &mut [u8]) -> usize
+    requires { ⌜ Ready m (now reply) ⌝ }
+    ensures { λ r. ⌜ Replied (listed (memoryOf m) enabledOnes) (now (reply .entry)) (now (reply .exit)) r ⌝ }
+{
+    let e = m.enabled;
+    let part = e.operating;
+    let place = first_place(part);
+    let first = slot(place);
+    let tool = slot(tool_place(part));
+    let third = slot(e.orientational);
+    let fourth = slot(e.levelling);
+    let a = m.systems[first];
+    let b = m.systems[tool];
+    let o = m.systems[third];
+    let l = m.systems[fourth];
+    let i = put_enabled(reply, 0, Group::Operating, place, a);
+    let j = put_tool(reply, i, part, b);
+    put_groups(reply, j, e, o, l)
+}

@@ -1,0 +1,78 @@
+// The replies to the queries, written straight into the lent buffer. A list begins with the fixed systems' lines; each further line goes into what is
+// left of the buffer.
+use crate::lines::put_fixed_links;
+use crate::lines::put_fixed_systems;
+use crate::lines::put_link;
+use crate::lines::put_system;
+use model::Memory;
+use print::put_byte;
+use print::put_decimal;
+ghost use mathlib.Core.Path.{_≡_};
+ghost use mathlib.Core.List.{_++_};
+ghost use Prim.Native.Nat.{_-_, _≤_};
+ghost use lib.ListN.{length};
+ghost use Rattle.model.specs.Ascii.{ascii};
+ghost use Rattle.model.specs.Limits.{bufferLimit};
+ghost use Rattle.model.specs.Stored.{memoryOf};
+ghost use Rattle.model.specs.Request.{systemsAll, links};
+ghost use Rattle.model.specs.Reply.{decimal, listed};
+ghost use Rattle.reply.specs.Lines.{Ready, Replied};
+
+pub mod texts; // texts.rt: types, groups and own values as text
+pub mod lines; // lines.rt: the lines of the lists
+pub mod enabled; // enabled.rt: KEN?
+
+// The index of the system at a place; for place 0, no user system's, that of some system.
+fn slot(place: u8) -> usize
+    ensures { λ r. ⌜ r ≡ place - 1 ⌝ }
+{
+    if place == 0 {
+        return 0;
+    }
+    place as usize - 1
+}
+
+// ERR?
+pub fn last_error(number: u8, reply: &mut [u8]) -> usize
+    requires { ⌜ bufferLimit ≤ length (now reply) ⌝ }
+    ensures { λ r. ⌜ Replied (decimal number ++ ascii "\n") (now (reply .entry)) (now (reply .exit)) r ⌝ }
+{
+    let at = put_decimal(reply, 0, number as u64);
+    put_byte(reply, at, b'\n')
+}
+
+// KLS?
+pub fn systems(m: Memory, reply: &mut [u8]) -> usize
+    requires { ⌜ Ready m (now reply) ⌝ }
+    ensures { λ r. ⌜ Replied (listed (memoryOf m) systemsAll) (now (reply .entry)) (now (reply .exit)) r ⌝ }
+{
+    let count = m.count as usize;
+    let mut at = put_fixed_systems(reply);
+    let mut i = 0;
+    while i < count {
+        let s = m.systems[i];
+        let n = put_system(&mut reply[at..], s);
+        at += n;
+        i += 1;
+    }
+    put_byte(reply, at, b'\n')
+}
+
+// KLN?
+pub fn links(m: Memory, reply: &mut [u8]) -> usize
+    requires { ⌜ Ready m (now reply) ⌝ }
+    ensures { λ r. ⌜ Replied (listed (memoryOf m) links) (now (reply .entry)) (now (reply .exit)) r ⌝ }
+{
+    let count = m.count as usize;
+    let mut at = put_fixed_links(reply);
+    let mut i = 0;
+    while i < count {
+        let s = m.systems[i];
+        let j = slot(s.pred);
+        let p = m.systems[j];
+        let n = put_link(&mut reply[at..], s, p.name);
+        at += n;
+        i += 1;
+    }
+    put_byte(reply, at, b'\n')
+}
