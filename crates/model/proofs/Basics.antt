@@ -1,5 +1,5 @@
 -- Laws of the tests and searches of specs/Lists.antt. Nothing here is about the bench.
-use Prim.Native.Nat.{ℕ, zero, suc, _+_, _-_, _≤_, _<_}
+use Prim.Native.Nat.{ℕ, zero, suc, _≤_, _<_}
 use mathlib.Core.Path.{_≡_, refl, sym, ap, _∙_}
 use mathlib.Core.List.{List, [], _∷_, _++_, map}
 use mathlib.Core.Bool.{Bool, true, false, _&&_, _||_}
@@ -170,3 +170,13 @@ unfolding table
 table-at zero f d i h = absurd (omega arith)
 table-at (suc n) f d zero h = refl
 table-at (suc n) f d (suc i) h = table-at n (λ j. f (suc j)) d i (omega arith)
+
+pub table-cong : {A : Type 0} (n : ℕ) (f g : ℕ → A) → ((i : ℕ) → i < n → f i ≡ g i) → table n f ≡ table n g
+unfolding table
+table-cong zero f g e = refl
+table-cong (suc n) f g e = rw (e 0 (omega arith)) (ap (λ t. g 0 ∷ t) (table-cong n (λ i. f (suc i)) (λ i. g (suc i)) (λ i h. e (suc i) (omega arith))))
+
+pub map-table : {A B : Type 0} (h : A → B) (n : ℕ) (f : ℕ → A) → map h (table n f) ≡ table n (λ i. h (f i))
+unfolding table
+map-table h zero f = refl
+map-table h (suc n) f = ap (λ t. h (f 0) ∷ t) (map-table h n (λ i. f (suc i)))

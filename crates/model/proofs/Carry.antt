@@ -1,31 +1,17 @@
 -- Two lists of systems that are alike along a chain, up to a renaming of places: the chain goes through the renaming, with the same steps, names and resultant.
-use Prim.Native.Nat.{ℕ, zero, suc, _≤_, _<_}
+use Prim.Native.Nat.{ℕ, zero, suc, _<_}
 use mathlib.Core.Path.{_≡_, refl, sym, ap, _∙_}
-use mathlib.Core.List.{List, [], _∷_, map}
+use mathlib.Core.List.{List, map}
 use lib.Dec.{eqb}
-use lib.ListN.{length}
 use borrow.Author.Tests.{eq-eqb, eqb-true}
 use Rattle.model.specs.Types.{Group}
-use Rattle.model.specs.Lists.{table}
-use Rattle.model.specs.Pose.{Pose, followed}
-use Rattle.model.specs.Memory.{System, Memory, systemAt, nameOf}
+use Rattle.model.specs.Memory.{System, Memory, nameOf}
 use Rattle.model.specs.Use.{inGroup}
 use Rattle.model.specs.Chain.{predOf, hop, steps, chain, ownPose, poseOver, resultant}
-use Rattle.model.specs.Demand.{Held, held}
+use Rattle.model.specs.Demand.{held}
+use Rattle.model.proofs.Basics.{table-cong, map-table}
 use Rattle.model.proofs.Hops.{hop-last}
 use Rattle.model.proofs.Steps.{Ends, steps-first, steps-end, steps-before, chain-length}
-
--- ---- tables
-
-pub table-cong : {A : Type 0} (n : ℕ) (f g : ℕ → A) → ((i : ℕ) → f i ≡ g i) → table n f ≡ table n g
-unfolding table
-table-cong zero f g e = refl
-table-cong (suc n) f g e = rw (e 0) (ap (λ t. g 0 ∷ t) (table-cong n (λ i. f (suc i)) (λ i. g (suc i)) (λ i. e (suc i))))
-
-pub map-table : {A B : Type 0} (h : A → B) (n : ℕ) (f : ℕ → A) → map h (table n f) ≡ table n (λ i. h (f i))
-unfolding table
-map-table h zero f = refl
-map-table h (suc n) f = ap (λ t. h (f 0) ∷ t) (map-table h n (λ i. f (suc i)))
 
 -- ---- alike
 
@@ -69,7 +55,7 @@ module _ (l l′ : List System) (f : ℕ → ℕ) where
     unfolding chain
     carried-chain =
         rw (carried-steps, map-table f (steps l q) (λ i. hop l (suc i) q))
-        (table-cong (steps l q) (λ i. hop l′ (suc i) (f q)) (λ i. f (hop l (suc i) q)) (λ i. carried-hop q alike (suc i)))
+        (table-cong (steps l q) (λ i. hop l′ (suc i) (f q)) (λ i. f (hop l (suc i) q)) (λ i h. carried-hop q alike (suc i)))
 
     pub carried-names : (g : Group) → map (λ p. nameOf l′ (inGroup g p)) (chain l′ (f q)) ≡ map (λ p. nameOf l (inGroup g p)) (chain l q)
     unfolding chain
@@ -77,17 +63,24 @@ module _ (l l′ : List System) (f : ℕ → ℕ) where
         let n : ℕ → List ℕ = λ p. nameOf l (inGroup g p) in
         let n′ : ℕ → List ℕ = λ p. nameOf l′ (inGroup g p) in
         map-table n′ (steps l′ (f q)) (λ i. hop l′ (suc i) (f q))
-        ∙ rw carried-steps (table-cong (steps l q) (λ i. n′ (hop l′ (suc i) (f q))) (λ i. n (hop l (suc i) q)) (λ i. ap n′ (carried-hop q alike (suc i)) ∙ alike (suc i) .name g))
+        ∙ rw carried-steps (table-cong (steps l q) (λ i. n′ (hop l′ (suc i) (f q))) (λ i. n (hop l (suc i) q))
+        (λ i h. ap n′ (carried-hop q alike (suc i)) ∙ alike (suc i) .name g))
         ∙ sym (map-table n (steps l q) (λ i. hop l (suc i) q))
 
+-- place q goes to place f q with its whole chain
+pub record Carried (m m′ : Memory) (f : ℕ → ℕ) (q : ℕ) : Type 0 where
+  pub alike : AlikeFrom (m .systems) (m′ .systems) f q
+  pub ends : Ends (m .systems) q
+  pub ends-after : Ends (m′ .systems) (f q)
+
 -- what demand 3 compares of an enabled system
-pub carried-held : (m m′ : Memory) (f : ℕ → ℕ) (g : Group) (q : ℕ) → AlikeFrom (m .systems) (m′ .systems) f q → Ends (m .systems) q → Ends (m′ .systems) (f q) → held m′ (inGroup g (f q)) ≡ held m (inGroup g q)
+pub carried-held : (m m′ : Memory) (f : ℕ → ℕ) (g : Group) (q : ℕ) → Carried m m′ f q → held m′ (inGroup g (f q)) ≡ held m (inGroup g q)
 unfolding held hop
-carried-held m m′ f g q a e e′ =
+carried-held m m′ f g q c =
     let l = m .systems in
     let l′ = m′ .systems in
-    let n : nameOf l′ (inGroup g (f q)) ≡ nameOf l (inGroup g q) = a 0 .name g in
-    let c = carried-names l l′ f q a e e′ g in
-    let r = carried-resultant l l′ f q a e e′ in
-    let s : length (chain l′ (f q)) ≡ length (chain l q) = chain-length l′ (f q) ∙ carried-steps l l′ f q a e e′ ∙ sym (chain-length l q) in
-    λ i. record { name = n i; chain = c i; resultant = r i; steps = s i }
+    let name : nameOf l′ (inGroup g (f q)) ≡ nameOf l (inGroup g q) = c .alike 0 .name g in
+    let names = carried-names l l′ f q (c .alike) (c .ends) (c .ends-after) g in
+    let pose = carried-resultant l l′ f q (c .alike) (c .ends) (c .ends-after) in
+    let count = chain-length l′ (f q) ∙ carried-steps l l′ f q (c .alike) (c .ends) (c .ends-after) ∙ sym (chain-length l q) in
+    λ i. record { name = name i; chain = names i; resultant = pose i; steps = count i }

@@ -1,28 +1,27 @@
 -- Define, link and copy keep a memory well formed, each under what its ladder has ruled out.
-use Prim.Native.Nat.{ℕ, zero, suc, _≤_, _<_}
+use Prim.Native.Nat.{ℕ, zero, suc, _<_}
 use mathlib.Core.Path.{_≡_, refl, sym, ap, _∙_}
 use mathlib.Core.List.{List}
-use mathlib.Core.Bool.{Bool, true, false, not, _&&_, _||_}
+use mathlib.Core.Bool.{true, false}
 use native.Mathlib.Omega.{arith}
 use borrow.Author.Tests.{not-false, ne-eqb}
 use lib.Dec.{eqb}
-use lib.ListN.{length}
 use Rattle.model.specs.Types.{Kind, Ksd, Kst, Ksw, Ksb, Kld, Group, Operating, Orientational, Levelling, Vec3, Turns}
 use Rattle.model.specs.Lists.{same}
-use Rattle.model.specs.Kinds.{ofKind, sameKind, sameGroup}
-use Rattle.model.specs.Memory.{System, Memory, systemAt, isUser, placeNamed, named, userNamed}
-use Rattle.model.specs.Chain.{predOf, hop, onChain}
+use Rattle.model.specs.Kinds.{ofKind, sameKind}
+use Rattle.model.specs.Memory.{Memory, systemAt, isUser, placeNamed, named, userNamed}
+use Rattle.model.specs.Chain.{predOf, onChain}
 use Rattle.model.specs.Words.{legalName, reserved}
-use Rattle.model.specs.WellFormed.{offsetsFine, turnsFine, noOffset}
 use Rattle.model.specs.Use.{nameInUse}
 use Rattle.model.specs.Refusals.{wrongPred, otherType, atOrBefore, noRoom}
 use Rattle.model.specs.Effects.{put, firstPred, fresh, linked, withPred, withName}
-use Rattle.model.proofs.Basics.{and-split, and-join, or-false, true-false, ≡→same}
-use Rattle.model.proofs.Hops.{hop-next}
+use Rattle.model.proofs.Basics.{or-false, true-false, ≡→same}
+use Rattle.model.proofs.Hops.{hop-zero, hop-next, ring-free}
+use Rattle.model.proofs.Steps.{off-path}
 use Rattle.model.proofs.Relink.{Misses}
-use Rattle.model.proofs.Fine.{Placed, ownFine, Fine, same-kind}
+use Rattle.model.proofs.Fine.{Placed, ownFine, Own, own-of, own-from, Fine, same-kind}
 use Rattle.model.proofs.Named.{place-stands, place-name, place-within, user-place, named-place}
-use Rattle.model.proofs.Unused.{Unused, unused-named, off-missed, zero-missed}
+use Rattle.model.proofs.Frames.{EachEnabled, unused-missed}
 use Rattle.model.proofs.Putting.{put-fine}
 
 -- ---- what a ladder's tests say
@@ -33,6 +32,11 @@ module _ (m : Memory) (fine : Fine m) where
   unfolding otherType
   kind-kept n k e u = sym (same-kind (userNamed m n .kind) k (not-false (sameKind (userNamed m n .kind) k) (rw u at e)))
 
+  -- number 11: no enabled chain meets the system of that name
+  pub not-in-use : (n : List ℕ) → isUser m n ≡ true → nameInUse m n ≡ false → EachEnabled (Misses (m .systems) (placeNamed (m .systems) n)) (m .enabled)
+  unfolding nameInUse
+  not-in-use n u e = unused-missed m fine (placeNamed (m .systems) n) (user-place m n u) (rw u at e)
+
   -- number 12: the chain of b, with b itself, does not meet a
   not-before : (a b : List ℕ) → atOrBefore m a b ≡ false → isUser m a ≡ true → Misses (m .systems) (placeNamed (m .systems) a) (named m b .place)
   unfolding atOrBefore
@@ -41,7 +45,8 @@ module _ (m : Memory) (fine : Fine m) where
       let pos = user-place m a u in
       let s = or-false (same a b) (onChain l (placeNamed l a) (named m b .place)) (rw u at e) in
       let np = named-place m b in
-      off-missed m fine (placeNamed l a) pos (named m b .place) (rw np (place-within l b)) (λ q. apart (sym np ∙ q) (s .0) pos) (s .1)
+      let ends = ring-free l (fine .ringless) (named m b .place) (rw np (place-within l b)) in
+      λ i. off-path l (named m b .place) ends (placeNamed l a) i pos (λ q. apart (sym np ∙ q) (s .0) pos) (s .1)
     where
       apart : placeNamed (m .systems) b ≡ placeNamed (m .systems) a → same a b ≡ false → 0 < placeNamed (m .systems) a → ⊥
       apart q d pos =
@@ -58,17 +63,18 @@ module _ (m : Memory) (fine : Fine m) where
   first-placed Ksb h = fine .enabled .orientational h
   first-placed Kld h = fine .enabled .levelling h
 
-  first-missed : (a : ℕ) → 0 < a → Unused (m .systems) a (m .enabled) → (g : Group) → Misses (m .systems) a (firstPred (m .enabled) g)
-  first-missed a pos u Operating = zero-missed m fine a pos
+  first-missed : (a : ℕ) → 0 < a → EachEnabled (Misses (m .systems) a) (m .enabled) → (g : Group) → Misses (m .systems) a (firstPred (m .enabled) g)
+  first-missed a pos u Operating = λ i e. let z = hop-zero (m .systems) i in absurd (omega arith)
   first-missed a pos u Orientational = u .orientational
   first-missed a pos u Levelling = u .levelling
 
   module _ (k : Kind) (n : List ℕ) (t : Vec3) (v : Turns) where
-    pub define-fine : ownFine (fresh m k n t v) ≡ true → otherType m n k ≡ false → nameInUse m n ≡ false → noRoom m n ≡ false → Fine (put m (fresh m k n t v))
+    pub define-fine :
+        ownFine (fresh m k n t v) ≡ true → otherType m n k ≡ false → nameInUse m n ≡ false → noRoom m n ≡ false → Fine (put m (fresh m k n t v))
     unfolding fresh
     define-fine own ten eleven thirteen =
         put-fine m fine (fresh m k n t v) own (first-placed k)
-        (λ u. (kind-kept n k ten u, first-missed (placeNamed (m .systems) n) (user-place m n u) (unused-named m fine n u eleven) (ofKind k .group)))
+        (λ u. (kind-kept n k ten u, first-missed (placeNamed (m .systems) n) (user-place m n u) (not-in-use n u eleven) (ofKind k .group)))
         thirteen
 
   -- ---- link
@@ -87,7 +93,8 @@ module _ (m : Memory) (fine : Fine m) where
     link-fine ten twelve =
         let pos = user-place m a user in
         let na = place-name (m .systems) a pos in
-        put-fine m fine (withPred (userNamed m a) (named m b .place)) (fine .systems .own (placeNamed (m .systems) a) (place-stands (m .systems) a pos)) (right-pred ten)
+        let own = fine .systems .own (placeNamed (m .systems) a) (place-stands (m .systems) a pos) in
+        put-fine m fine (withPred (userNamed m a) (named m b .place)) own (right-pred ten)
         (λ u. rw na (refl, not-before a b twelve user))
         (rw (na, user))
 
@@ -103,18 +110,14 @@ module _ (m : Memory) (fine : Fine m) where
       pred-at (suc i) = refl
 
   module _ (s d : List ℕ) (user : isUser m s ≡ true) where
-    own-copied : (x : System) → ownFine x ≡ true → legalName d ≡ true → reserved d ≡ false → ownFine (withName x d) ≡ true
-    own-copied x own legal free =
-        let a = and-split (legalName (x .name) && not (reserved (x .name)) && offsetsFine (x .offset) && turnsFine (x .turns)) _ own in
-        let b = and-split (legalName (x .name) && not (reserved (x .name)) && offsetsFine (x .offset)) (turnsFine (x .turns)) (a .0) in
-        let c = and-split (legalName (x .name) && not (reserved (x .name))) (offsetsFine (x .offset)) (b .0) in
-        and-join (and-join (and-join (and-join legal (ap not free)) (c .1)) (b .1)) (a .1)
-
-    pub copy-fine : legalName d ≡ true → reserved d ≡ false → otherType m d (userNamed m s .kind) ≡ false → atOrBefore m d s ≡ false → noRoom m d ≡ false → Fine (put m (withName (userNamed m s) d))
+    pub copy-fine :
+        legalName d ≡ true → reserved d ≡ false → otherType m d (userNamed m s .kind) ≡ false → atOrBefore m d s ≡ false → noRoom m d ≡ false →
+        Fine (put m (withName (userNamed m s) d))
     copy-fine legal eight ten twelve thirteen =
-        let pos = user-place m s user in
+        let o = own-of (userNamed m s) (fine .systems .own (placeNamed (m .systems) s) (place-stands (m .systems) s (user-place m s user))) in
+        let copied : Own (withName (userNamed m s) d) = record { name = legal; free = eight; offset = o .offset; turns = o .turns; flat = o .flat } in
         let np = named-place m s in
-        put-fine m fine (withName (userNamed m s) d) (own-copied (userNamed m s) (fine .systems .own (placeNamed (m .systems) s) (place-stands (m .systems) s pos)) legal eight)
+        put-fine m fine (withName (userNamed m s) d) (own-from (withName (userNamed m s) d) copied)
         (fine .systems .preds (placeNamed (m .systems) s))
         (λ u. (kind-kept d (userNamed m s .kind) ten u, pred-missed (placeNamed (m .systems) d) (placeNamed (m .systems) s) (rw np at (not-before d s twelve u))))
         thirteen

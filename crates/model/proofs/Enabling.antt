@@ -1,16 +1,15 @@
 -- Enabling keeps a memory well formed: each group has one of its allowed types, and never a pair of two ZEROs.
-use Prim.Native.Nat.{ℕ, _+_, _≤_, _<_}
-use mathlib.Core.Path.{_≡_, refl}
+use Prim.Native.Nat.{ℕ, _≤_, _<_}
+use mathlib.Core.Path.{refl}
 use mathlib.Core.List.{List}
-use mathlib.Core.Bool.{Bool, true, false, cond}
 use mathlib.Core.Logic.{⊎-elim}
 use native.Mathlib.Omega.{arith}
 use borrow.Author.Tests.{eqb-false}
 use lib.Dec.{eqb}
 use lib.ListN.{length}
 use Rattle.model.specs.Types.{Kind, Ksd, Kst, Ksw, Ksb, Kld, Group, Operating, Orientational, Levelling, Enabled, OperatingPart, Single, Pair}
-use Rattle.model.specs.Memory.{System, Memory, Ref, systemAt, placeNamed, named}
-use Rattle.model.specs.Effects.{workHalf, toolHalf, enabledUser, enabledFixed, enabling, withOperating, withLevelling}
+use Rattle.model.specs.Memory.{System, Memory, Ref, systemAt, named}
+use Rattle.model.specs.Effects.{workHalf, toolHalf, enabledUser, enabledFixed, enabling}
 use Rattle.model.proofs.Basics.{either}
 use Rattle.model.proofs.Fine.{Placed, PartPlaced, EnabledPlaced, Fine}
 use Rattle.model.proofs.Named.{named-place, place-within}
@@ -38,13 +37,12 @@ module _ (l : List System) where
     user-enabled Ksb p h g = record { operating = f .operating; orientational = g; levelling = f .levelling }
     user-enabled Kld p h g = record { operating = f .operating; orientational = f .orientational; levelling = g }
 
-    zero-enabled : (t : Bool) → EnabledPlaced l (cond t (withLevelling (withOperating e (Single 0)) 0) (withOperating e (Single 0)))
-    zero-enabled true = record { operating = fixed-placed Ksd; orientational = f .orientational; levelling = fixed-placed Kld }
-    zero-enabled false = record { operating = fixed-placed Ksd; orientational = f .orientational; levelling = f .levelling }
-
     fixed-enabled : (level : ℕ) (g : Group) → EnabledPlaced l (enabledFixed level e g)
     unfolding enabledFixed
-    fixed-enabled level Operating = zero-enabled (eqb level 1)
+    fixed-enabled level Operating =
+        ⊎-elim (λ one. rw one (record { operating = fixed-placed Ksd; orientational = f .orientational; levelling = fixed-placed Kld }))
+        (λ other. rw other (record { operating = fixed-placed Ksd; orientational = f .orientational; levelling = f .levelling }))
+        (either (eqb level 1))
     fixed-enabled level Orientational = record { operating = f .operating; orientational = fixed-placed Ksb; levelling = f .levelling }
     fixed-enabled level Levelling = record { operating = f .operating; orientational = f .orientational; levelling = fixed-placed Kld }
 
@@ -54,7 +52,9 @@ module _ (m : Memory) (fine : Fine m) (level : ℕ) where
   enabling-placed r h =
       let l = m .systems in
       ⊎-elim (λ z. rw z (fixed-enabled l (m .enabled) (fine .enabled) level (r .group)))
-      (λ z. let n = eqb-false (r .place) 0 z in rw z (user-enabled l (m .enabled) (fine .enabled) (systemAt l (r .place) .kind) (r .place) (omega arith) (λ p. (h, refl))))
+      (λ z.
+      let n = eqb-false (r .place) 0 z in
+      rw z (user-enabled l (m .enabled) (fine .enabled) (systemAt l (r .place) .kind) (r .place) (omega arith) (λ p. (h, refl))))
       (either (eqb (r .place) 0))
 
   pub enable-fine : (a : List ℕ) → Fine (record { systems = m .systems; enabled = enabling level m (named m a) })

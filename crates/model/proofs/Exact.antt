@@ -1,19 +1,19 @@
 -- The number of a call is exact: the first that applies, and only if one does.
 use Prim.Native.Nat.{ℕ, _≤_}
-use mathlib.Core.Path.{_≡_, refl, sym, ap, _∙_}
-use mathlib.Core.Bool.{Bool, true, false}
+use mathlib.Core.Path.{_≡_, sym, ap, _∙_}
+use mathlib.Core.Bool.{true, false}
 use mathlib.Core.List.{List}
-use mathlib.Core.Option.{Option, none, some}
+use mathlib.Core.Option.{none, some}
 use mathlib.Core.Logic.{⊎-elim, _↔_}
 use native.Mathlib.Omega.{arith}
 use Rattle.model.specs.Memory.{Memory, State, started}
 use Rattle.model.specs.WellFormed.{wellFormed}
-use Rattle.model.specs.Refusals.{refusal, first, ladder, short}
+use Rattle.model.specs.Refusals.{refusal, ladder}
 use Rattle.model.specs.Image.{accepted}
-use Rattle.model.specs.Machine.{Outcome, Begun, began, stepped, restart, writeImage, startFactory, startImage}
+use Rattle.model.specs.Machine.{Outcome, began, stepped, startFactory, startImage}
 use Rattle.model.specs.Claims.{applies, FirstToApply, NumberExact, OtherNumbersExact}
-use Rattle.model.proofs.Basics.{either, true-false}
-use Rattle.model.proofs.Ladder.{ladder-ascends, ladder-largest, none-applies, first-applies, first-only, first-above, first-zero}
+use Rattle.model.proofs.Basics.{either}
+use Rattle.model.proofs.Ladder.{ladder-ascends, ladder-largest, none-applies, first-applies, first-only, first-zero}
 use Rattle.model.proofs.Refusing.{step-ill, step-number, refusal-range, restart-ill, restart-fine, image-ill, image-short, image-fine}
 
 -- ---- a line
@@ -52,7 +52,7 @@ module _ (st : State) (line b : List ℕ) where
 
 -- ---- a start from an image
 
-start-none : (bytes : List ℕ) → accepted bytes ≡ none → startImage bytes ≡ began startFactory 14
+pub start-none : (bytes : List ℕ) → accepted bytes ≡ none → startImage bytes ≡ began startFactory 14
 unfolding startImage
 start-none bytes e = rw (e, startImage)
 
@@ -60,21 +60,14 @@ pub start-some : (bytes : List ℕ) (m : Memory) → accepted bytes ≡ some m �
 unfolding startImage
 start-some bytes m e = rw (e, startImage)
 
-start-exact : (bytes : List ℕ) → startImage bytes .number ≡ 14 ↔ accepted bytes ≡ none
-start-exact bytes = (λ e. go (accepted bytes) refl e, λ e. ap (λ (o : Begun). o .number) (start-none bytes e))
-  where
-    go : (o : Option Memory) → accepted bytes ≡ o → startImage bytes .number ≡ 14 → o ≡ none
-    go none q e = refl
-    go (some m) q e = absurd (let z = ap (λ (o : Begun). o .number) (start-some bytes m q) in omega arith)
-
 pub other-numbers-exact : OtherNumbersExact
 other-numbers-exact =
     record {
       restart-one = restart-ill;
-      restart-taken = λ st w. ap (λ (o : Begun). o .number) (restart-fine st w);
+      restart-taken = restart-fine;
       image-one = image-ill;
       image-two = image-short;
-      image-taken = λ st b w s. ap (λ (o : Outcome). o .number) (image-fine st b w s);
-      start-refused = start-exact;
-      start-factory = start-none;
+      image-taken = image-fine;
+      start-refused = start-none;
+      start-taken = start-some;
     }

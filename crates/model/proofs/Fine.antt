@@ -6,7 +6,7 @@ use mathlib.Core.Bool.{Bool, true, false, cond, not, _&&_, _||_}
 use mathlib.Core.Logic.{_⊎_, inl, inr, ⊎-elim}
 use native.Mathlib.Omega.{arith}
 use native.Mathlib.Decide.{decLt}
-use borrow.Author.Tests.{eqb-true, leb-true, ltb-true, eq-eqb, le-leb, lt-ltb, not-true, ne-eqb}
+use borrow.Author.Tests.{eqb-true, leb-true, ltb-true, eq-eqb, le-leb, lt-ltb, not-true}
 use lib.Dec.{eqb, leb, ltb}
 use lib.ListN.{length, getD, List·getD-eq-default}
 use Rattle.model.specs.Types.{Kind, Ksd, Kst, Ksw, Ksb, Kld, Enabled, OperatingPart, Single, Pair}
@@ -76,6 +76,26 @@ ownFine s =
     legalName (s .name) && not (reserved (s .name)) && offsetsFine (s .offset) && turnsFine (s .turns)
     && (not (ofKind (s .kind) .turnsOnly) || noOffset (s .offset))
 
+-- the same, part by part
+pub record Own (s : System) : Type 0 where
+  pub name : legalName (s .name) ≡ true
+  pub free : reserved (s .name) ≡ false
+  pub offset : offsetsFine (s .offset) ≡ true
+  pub turns : turnsFine (s .turns) ≡ true
+  pub flat : not (ofKind (s .kind) .turnsOnly) || noOffset (s .offset) ≡ true
+
+pub own-of : (s : System) → ownFine s ≡ true → Own s
+own-of s f =
+    let named = legalName (s .name) && not (reserved (s .name)) in
+    let a = and-split (named && offsetsFine (s .offset) && turnsFine (s .turns)) (not (ofKind (s .kind) .turnsOnly) || noOffset (s .offset)) f in
+    let b = and-split (named && offsetsFine (s .offset)) (turnsFine (s .turns)) (a .0) in
+    let c = and-split named (offsetsFine (s .offset)) (b .0) in
+    let d = and-split (legalName (s .name)) (not (reserved (s .name))) (c .0) in
+    record { name = d .0; free = not-true (reserved (s .name)) (d .1); offset = c .1; turns = b .1; flat = a .1 }
+
+pub own-from : (s : System) → Own s → ownFine s ≡ true
+own-from s o = and-join (and-join (and-join (and-join (o .name) (ap not (o .free))) (o .offset)) (o .turns)) (o .flat)
+
 abbrev pub PartPlaced : List System → OperatingPart → Type 0
 PartPlaced l (Single p) = Placed l Ksd p
 PartPlaced l (Pair w t) = Placed l Ksw w × Placed l Kst t × (0 < w + t)
@@ -97,13 +117,16 @@ pub record Fine (m : Memory) : Type 0 where
   pub ringless : noRing (m .systems) ≡ true
   pub enabled : EnabledPlaced (m .systems) (m .enabled)
 
+pub placed-within : (l : List System) (k : Kind) (p : ℕ) → Placed l k p → p ≤ length l
+placed-within l k p f = go (decLt 0 p)
+  where
+    go : Dec (0 < p) → p ≤ length l
+    go (yes h) = f h .0
+    go (no h) = omega arith
+
 -- every predecessor is in the list, or the fixed system
 pub preds-within : {l : List System} → Systems l → (k : ℕ) → systemAt l k .pred ≤ length l
-preds-within {l} s k = go (decLt 0 (systemAt l k .pred))
-  where
-    go : Dec (0 < systemAt l k .pred) → systemAt l k .pred ≤ length l
-    go (yes h) = s .preds k h .0
-    go (no h) = omega arith
+preds-within {l} s k = placed-within l (systemAt l k .kind) (systemAt l k .pred) (s .preds k)
 
 -- ---- names that differ
 
@@ -132,7 +155,8 @@ differ-from : (l : List System) → ((i j : ℕ) → i < length l → j < length
 unfolding namesDiffer namesake
 differ-from [] f = refl
 differ-from (s ∷ l) f =
-    and-join (ap not (no-namesake (either (any (namesake s) l)))) (differ-from l (λ i j h g e. let q = f (suc i) (suc j) (omega arith) (omega arith) e in omega arith))
+    and-join (ap not (no-namesake (either (any (namesake s) l))))
+    (differ-from l (λ i j h g e. let q = f (suc i) (suc j) (omega arith) (omega arith) e in omega arith))
   where
     no-namesake : (any (namesake s) l ≡ true) ⊎ (any (namesake s) l ≡ false) → any (namesake s) l ≡ false
     no-namesake (inl e) =
@@ -184,8 +208,11 @@ module _ (l : List System) where
   part-of (Single p) e = placed-of l Ksd p e
   part-of (Pair w t) e =
       let a = and-split (isKind l Ksw w && isKind l Kst t) (ltb 0 w || ltb 0 t) e in
-      let b = and-split (isKind l Ksw w) (isKind l Kst t) (a .0) in
-      (placed-of l Ksw w (b .0), placed-of l Kst t (b .1), ⊎-elim (λ h. omega (arith, ltb-true 0 w h)) (λ h. omega (arith, ltb-true 0 t h)) (or-split (ltb 0 w) (ltb 0 t) (a .1)))
+      let b = and-split (isKind l Ksw w) (isKind l Kst t) (a .0) in (
+        placed-of l Ksw w (b .0),
+        placed-of l Kst t (b .1),
+        ⊎-elim (λ h. omega (arith, ltb-true 0 w h)) (λ h. omega (arith, ltb-true 0 t h)) (or-split (ltb 0 w) (ltb 0 t) (a .1)),
+      )
 
   part-from : (o : OperatingPart) → PartPlaced l o → operatingFine l o ≡ true
   unfolding operatingFine
@@ -211,7 +238,8 @@ module _ (l : List System) where
     pub enabled-from : EnabledPlaced l e → enabledFine l e ≡ true
     unfolding enabledFine
     enabled-from p =
-        and-join (and-join (part-from (e .operating) (p .operating)) (placed-from l Ksb (e .orientational) (p .orientational))) (placed-from l Kld (e .levelling) (p .levelling))
+        and-join (and-join (part-from (e .operating) (p .operating)) (placed-from l Ksb (e .orientational) (p .orientational)))
+        (placed-from l Kld (e .levelling) (p .levelling))
 
 -- ---- a memory
 

@@ -120,7 +120,8 @@ module _ (l : List System) where
   no-return f i q = back f f i q (omega arith)
 
   -- where the places of a chain that ends are among m places, it ends within m links
-  within : (m : ℕ) (allowed : List ℕ) → length allowed ≤ m → (f q : ℕ) → hop l f q ≡ 0 → ((i : ℕ) → (hop l i q ≡ 0 → ⊥) → In (hop l i q) allowed) → hop l m q ≡ 0
+  within : (m : ℕ) (allowed : List ℕ) → length allowed ≤ m → (f q : ℕ) → hop l f q ≡ 0 → ((i : ℕ) → (hop l i q ≡ 0 → ⊥) → In (hop l i q) allowed) →
+      hop l m q ≡ 0
   unfolding hop predOf
   within zero [] h f q e on = go (ℕ-discrete q 0)
     where
@@ -156,7 +157,9 @@ module _ (l : List System) where
 
     -- the pigeonhole: a chain that ends does so within as many links as there are systems
     pub ends-in-time : (f q : ℕ) → q ≤ length l → hop l f q ≡ 0 → hop l (length l) q ≡ 0
-    ends-in-time f q h e = within (length l) (up-to (length l)) (omega (arith, up-to-length (length l))) f q e (λ i n. up-to-in (length l) (hop l i q) (omega arith) (hop-in-range i q h))
+    ends-in-time f q h e =
+        within (length l) (up-to (length l)) (omega (arith, up-to-length (length l))) f q e
+        (λ i n. up-to-in (length l) (hop l i q) (omega arith) (hop-in-range i q h))
 
   -- ---- no ring
 
@@ -173,4 +176,5 @@ module _ (l : List System) where
   ring-free-from f =
       let n = suc (length l) in
       let id : ℕ → ℕ = λ q. q in
-      all-from (λ q. eqb (hop l (length l) q) 0) (table n id) 0 (λ i h. let k : i < n = omega (arith, length-table n id) in rw (table-at n id 0 i k) (eq-eqb _ _ (f i (omega arith))))
+      all-from (λ q. eqb (hop l (length l) q) 0) (table n id) 0
+      (λ i h. let k : i < n = omega (arith, length-table n id) in rw (table-at n id 0 i k) (eq-eqb _ _ (f i (omega arith))))

@@ -1,9 +1,9 @@
 -- A ladder whose numbers ascend gives the first number that applies, and the ladder of every line ascends.
-use Prim.Native.Nat.{ℕ, zero, suc, _≤_, _<_}
-use mathlib.Core.Path.{_≡_, refl, sym, ap, _∙_}
+use Prim.Native.Nat.{ℕ, _≤_, _<_}
+use mathlib.Core.Path.{_≡_, refl, sym, _∙_}
 use mathlib.Core.Bool.{Bool, true, false, _&&_}
 use mathlib.Core.List.{List, [], _∷_}
-use mathlib.Core.Logic.{_⊎_, inl, inr, ⊎-elim, _↔_}
+use mathlib.Core.Logic.{⊎-elim}
 use native.Mathlib.Omega.{arith}
 use native.Mathlib.Decide.{decLt, ℕ-discrete}
 use borrow.Author.Tests.{ltb-true, ne-eqb, eq-eqb}
@@ -11,9 +11,9 @@ use lib.Dec.{eqb, ltb, leb}
 use Rattle.model.specs.Lists.{all, any}
 use Rattle.model.specs.Limits.{largestNumber}
 use Rattle.model.specs.Memory.{Memory, State}
-use Rattle.model.specs.Request.{Change, Query, Request, Reading, reading, unknown, malformed, beyond, asks, change, list, lastError, define, link, copy, remove, enable, setLevel, save, restore, reset, enabledOnes, systemsAll, links, resultants, resultantOf}
-use Rattle.model.specs.Refusals.{Rung, first, changeLadder, queryLadder, requestLadder, readingLadder, ladder}
-use Rattle.model.proofs.Basics.{and-split, either, true-false}
+use Rattle.model.specs.Request.{Change, Query, Reading, reading, unknown, malformed, beyond, asks, change, list, lastError, define, link, copy, remove, enable, setLevel, save, restore, reset, enabledOnes, systemsAll, links, resultants, resultantOf}
+use Rattle.model.specs.Refusals.{Rung, first, short, unreadable, refusal, changeLadder, queryLadder, requestLadder, readingLadder, ladder}
+use Rattle.model.proofs.Basics.{and-split, or-false, either, true-false}
 use Rattle.model.specs.Claims.{applies, FirstToApply, ascending}
 
 and-false : (a : Bool) → a && false ≡ false
@@ -53,6 +53,10 @@ module _ (r : Rung) (rs : List Rung) where
     rises-on = and-split (ltb k (r .0)) (ascending (r .0) rs) a .1
 
 -- ---- an ascending ladder
+
+-- no number applies
+abbrev pub Clear : List Rung → Type 0
+Clear rs = (n : ℕ) → applies n rs ≡ false
 
 -- no number applies that is not above where it begins
 nothing-below : (rs : List Rung) (k : ℕ) → ascending k rs ≡ true → (n : ℕ) → n ≤ k → applies n rs ≡ false
@@ -168,3 +172,11 @@ module _ (st : State) (line b : List ℕ) where
   pub ladder-largest : all (λ (r : Rung). leb (r .0) largestNumber) (ladder st line b) ≡ true
   unfolding ladder all
   ladder-largest = reading-rises st (reading line) .1
+
+  -- of an accepted line no number applies, from 4 on neither
+  pub clear-of : refusal st line b ≡ 0 → Clear (readingLadder st (reading line))
+  unfolding refusal ladder applies any
+  clear-of z n =
+      let from-three = applies n ((3, unreadable line) ∷ readingLadder st (reading line)) in
+      let a = or-false (eqb n 2 && short b) from-three (none-applies (ladder st line b) 1 ladder-ascends z n) in
+      or-false (eqb n 3 && unreadable line) (applies n (readingLadder st (reading line))) (a .1) .1

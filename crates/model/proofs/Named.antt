@@ -1,22 +1,21 @@
 -- How a name finds its system.
 use Prim.Native.Nat.{ℕ, zero, suc, _≤_, _<_}
-use mathlib.Core.Path.{_≡_, refl, sym, ap, _∙_}
+use mathlib.Core.Path.{_≡_, refl, sym, _∙_}
 use mathlib.Core.List.{List, [], _∷_}
-use mathlib.Core.Bool.{Bool, true, false, cond, not, _||_}
-use mathlib.Core.Option.{Option, none, some}
-use mathlib.Core.Logic.{_⊎_, inl, inr, ⊎-elim}
+use mathlib.Core.Bool.{Bool, true, false, cond, _||_}
+use mathlib.Core.Option.{none, some}
+use mathlib.Core.Logic.{⊎-elim}
 use native.Mathlib.Omega.{arith}
 use native.Mathlib.Decide.{decLt}
 use borrow.Author.Tests.{ltb-true, ltb-false, lt-ltb, le-ltb, not-false}
-use lib.Dec.{ltb}
 use lib.ListN.{length}
 use Rattle.model.specs.Types.{Group, Operating, Orientational, Levelling}
 use Rattle.model.specs.Lists.{any, least, same, oneOf, there?}
-use Rattle.model.specs.Kinds.{ofGroup, groups, reservedNames}
-use Rattle.model.specs.Memory.{System, Memory, Ref, systemAt, fixedRef, userRef, placeNamed, isUser, fixedNamed, find, refOr, named}
+use Rattle.model.specs.Kinds.{ofGroup, groups}
+use Rattle.model.specs.Memory.{System, Memory, Ref, systemAt, userRef, placeNamed, isUser, fixedNamed, find, refOr, named}
 use Rattle.model.specs.Words.{reserved}
 use Rattle.model.specs.Refusals.{absent}
-use Rattle.model.proofs.Basics.{either, true-false, or-false, or-left, or-right, ≡→same, same→≡, least-le, least-hit, least-miss}
+use Rattle.model.proofs.Basics.{either, true-false, ≡→same, same→≡, least-hit, least-miss}
 use Rattle.model.proofs.Fine.{Stands}
 
 -- ---- the place of a name
@@ -114,10 +113,6 @@ module _ (m : Memory) (n : List ℕ) where
       ⊎-elim (λ u. rw (find-user m n u))
       (λ u. rw (find-fixed m n u) (fixed-place groups n ∙ sym (user-none m n u)))
       (either (isUser m n))
-
-  pub named-user : isUser m n ≡ true → named m n ≡ userRef (m .systems) (placeNamed (m .systems) n)
-  unfolding refOr
-  named-user u = rw (find-user m n u)
 
   -- a system that is there, and whose name is not reserved, is a user system
   pub present-user : absent m n ≡ false → reserved n ≡ false → isUser m n ≡ true

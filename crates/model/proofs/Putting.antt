@@ -1,24 +1,22 @@
 -- A system put into a memory, in its place or last, keeps the memory well formed.
-use Prim.Native.Nat.{ℕ, zero, suc, _+_, _-_, _≤_, _<_}
+use Prim.Native.Nat.{ℕ, suc, _-_, _≤_, _<_}
 use mathlib.Core.Path.{_≡_, refl, sym, ap, _∙_}
 use mathlib.Core.List.{List, [], _∷_, _++_}
-use mathlib.Core.Bool.{Bool, true, false, not, _&&_}
+use mathlib.Core.Bool.{true, false}
 use mathlib.Core.Logic.{⊎-elim}
 use native.Mathlib.Omega.{arith}
 use native.Mathlib.Decide.{decLt, ℕ-discrete}
 use borrow.Author.Tests.{leb-false}
-use lib.Dec.{leb}
 use lib.ListN.{length, set, length-set}
 use Rattle.model.specs.Types.{Kind, Enabled, OperatingPart, Single, Pair}
 use Rattle.model.specs.Limits.{maxSystems}
 use Rattle.model.specs.Memory.{System, Memory, systemAt, blank, isUser, placeNamed, userNamed}
 use Rattle.model.specs.Refusals.{noRoom}
-use Rattle.model.specs.Effects.{withSystems, put, mendedPart, mendedEnabled}
+use Rattle.model.specs.Effects.{withSystems, put}
 use Rattle.model.proofs.Basics.{either}
 use Rattle.model.proofs.Relink.{Misses, replaced-other, replaced-same, replaced-no-ring, added-length, added-old, added-new, added-no-ring}
-use Rattle.model.proofs.Fine.{Stands, Placed, ownFine, PartPlaced, EnabledPlaced, Systems, Fine, preds-within, blank-beyond}
+use Rattle.model.proofs.Fine.{Stands, Placed, ownFine, PartPlaced, EnabledPlaced, Systems, Fine, preds-within, blank-beyond, placed-within}
 use Rattle.model.proofs.Named.{place-stands, place-name, place-missing, user-place, user-none}
-use Rattle.model.proofs.Unused.{placed-within}
 
 -- ---- a list that has every system of another, at its place and of its type
 
@@ -44,7 +42,12 @@ enabled-extends {l} {l′} x e p =
 -- ---- in its place
 
 module _ (m : Memory) (fine : Fine m) (s : System) (own : ownFine s ≡ true) (pred : Placed (m .systems) (s .kind) (s .pred)) where
-  module _ (k : ℕ) (at : Stands (m .systems) k) (kind : s .kind ≡ systemAt (m .systems) k .kind) (name : s .name ≡ systemAt (m .systems) k .name) (off : Misses (m .systems) k (s .pred)) where
+  pred-within : s .pred ≤ length (m .systems)
+  pred-within = placed-within (m .systems) (s .kind) (s .pred) pred
+
+  module _
+      (k : ℕ) (at : Stands (m .systems) k)
+      (kind : s .kind ≡ systemAt (m .systems) k .kind) (name : s .name ≡ systemAt (m .systems) k .name) (off : Misses (m .systems) k (s .pred)) where
     new : List System
     new = set (m .systems) (k - 1) s
 
@@ -70,9 +73,12 @@ module _ (m : Memory) (fine : Fine m) (s : System) (own : ownFine s ≡ true) (p
           few = omega (arith, new-length, fine .systems .few);
           own = λ q h. own-at q h (ℕ-discrete q k);
           preds = λ q. pred-at q (ℕ-discrete q k);
-          differ = λ i j h g e. fine .systems .differ i j (rw new-length at h) (rw new-length at g) (sym (same-as (λ (x : System). x .name) name i) ∙ e ∙ same-as (λ (x : System). x .name) name j);
+          differ = λ i j h g e. fine .systems .differ i j (rw new-length at h) (rw new-length at g) (sym (same-name i) ∙ e ∙ same-name j);
         }
       where
+        same-name : (q : ℕ) → systemAt new q .name ≡ systemAt (m .systems) q .name
+        same-name = same-as (λ (x : System). x .name) name
+
         own-at : (q : ℕ) → Stands new q → Dec (q ≡ k) → ownFine (systemAt new q) ≡ true
         own-at q h (yes y) = rw (y, replaced-same (m .systems) k s (at .0) (at .1)) own
         own-at q h (no n) = rw (replaced-other (m .systems) k s (at .0) q n) (fine .systems .own q (rw new-length at h))
@@ -86,7 +92,7 @@ module _ (m : Memory) (fine : Fine m) (s : System) (own : ownFine s ≡ true) (p
     replaced-fine =
         record {
           systems = replaced-systems;
-          ringless = replaced-no-ring (m .systems) k s (at .0) (at .1) (preds-within (fine .systems)) (placed-within (m .systems) (s .kind) (s .pred) pred) (fine .ringless) off;
+          ringless = replaced-no-ring (m .systems) k s (at .0) (at .1) (preds-within (fine .systems)) pred-within (fine .ringless) off;
           enabled = enabled-extends extends (m .enabled) (fine .enabled);
         }
 
@@ -101,7 +107,8 @@ module _ (m : Memory) (fine : Fine m) (s : System) (own : ownFine s ≡ true) (p
     more-length = added-length (m .systems) s
 
     -- a place is an old one, the new one, or beyond
-    by-place : (P : ℕ → System → Type 0) (q : ℕ) → (q ≤ length (m .systems) → P q (systemAt (m .systems) q)) → P (suc (length (m .systems))) s → (length more < q → P q blank) → P q (systemAt more q)
+    by-place : (P : ℕ → System → Type 0) (q : ℕ) →
+        (q ≤ length (m .systems) → P q (systemAt (m .systems) q)) → P (suc (length (m .systems))) s → (length more < q → P q blank) → P q (systemAt more q)
     unfolding more
     by-place P q old last beyond = go (decLt (length (m .systems)) q) (decLt (length more) q)
       where
@@ -121,10 +128,20 @@ module _ (m : Memory) (fine : Fine m) (s : System) (own : ownFine s ≡ true) (p
         record {
           few = omega (arith, more-length);
           own = λ q. by-place (λ x t. Stands more x → ownFine t ≡ true) q (λ g h. fine .systems .own q (omega arith)) (λ h. own) (λ g h. absurd (omega arith));
-          preds = λ q. by-place (λ x t. Placed more (t .kind) (t .pred)) q (λ g. placed-extends extended _ _ (fine .systems .preds q)) (placed-extends extended (s .kind) (s .pred) pred) (λ g h. absurd (omega arith));
-          differ = λ i j. by-place (λ x t. Stands more x → Stands more j → t .name ≡ systemAt more j .name → x ≡ j) i (old-differs i j) (new-differs j) (λ g h. absurd (omega arith));
+          preds = preds-at;
+          differ = λ i j. by-place (Differs j) i (old-differs i j) (new-differs j) (λ g h. absurd (omega arith));
         }
       where
+        preds-at : (q : ℕ) → Placed more (systemAt more q .kind) (systemAt more q .pred)
+        preds-at q =
+            by-place (λ x t. Placed more (t .kind) (t .pred)) q
+            (λ g. placed-extends extended _ _ (fine .systems .preds q))
+            (placed-extends extended (s .kind) (s .pred) pred)
+            (λ g h. absurd (omega arith))
+
+        Differs : ℕ → ℕ → System → Type 0
+        Differs j x t = Stands more x → Stands more j → t .name ≡ systemAt more j .name → x ≡ j
+
         old-differs : (i j : ℕ) → i ≤ length (m .systems) → Stands more i → Stands more j → systemAt (m .systems) i .name ≡ systemAt more j .name → i ≡ j
         old-differs i j g =
             by-place (λ y u. Stands more i → Stands more y → systemAt (m .systems) i .name ≡ u .name → i ≡ y) j
@@ -144,7 +161,7 @@ module _ (m : Memory) (fine : Fine m) (s : System) (own : ownFine s ≡ true) (p
     added-fine =
         record {
           systems = more-systems;
-          ringless = added-no-ring (m .systems) s (preds-within (fine .systems)) (placed-within (m .systems) (s .kind) (s .pred) pred) (fine .ringless);
+          ringless = added-no-ring (m .systems) s (preds-within (fine .systems)) pred-within (fine .ringless);
           enabled = enabled-extends extended (m .enabled) (fine .enabled);
         }
 

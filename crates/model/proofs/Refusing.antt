@@ -85,12 +85,12 @@ module _ (st : State) (line b : List ℕ) where
   line-untouched : (stepped st line b .number ≡ 0 → ⊥) → Untouched st b (stepped st line b)
   line-untouched =
       by-case (λ o. (o .number ≡ 0 → ⊥) → Untouched st b o)
-      (λ w z. same)
-      (λ n h h′ z. record { volatile = refl; permanent = refl; level = refl; buffer = refl; count = refl })
+      (λ w z. left (st .error) 1)
+      (λ n h h′ z. left n n)
       (λ w e z. absurd (z (carried-number st (reading line) b)))
     where
-      same : Untouched st b (refused st 1 b)
-      same = record { volatile = refl; permanent = refl; level = refl; buffer = refl; count = refl }
+      left : (error n : ℕ) → Untouched st b (refused (withError st error) n b)
+      left error n = record { volatile = refl; permanent = refl; level = refl; buffer = refl; count = refl }
 
   line-one : stepped st line b .number ≡ 1 → stepped st line b .state ≡ st
   line-one =
@@ -117,6 +117,10 @@ module _ (st : State) where
   unfolding restart
   restart-fine w = rw (w, restart)
 
+  restart-untouched : (restart st .number ≡ 0 → ⊥) → restart st .state ≡ st
+  restart-untouched z =
+      ⊎-elim (λ w. absurd (z (ap (λ (o : Begun). o .number) (restart-fine w)))) (λ w. ap (λ (o : Begun). o .state) (restart-ill w)) (either (wellFormed st))
+
   module _ (b : List ℕ) where
     pub image-ill : wellFormed st ≡ false → writeImage st b ≡ refused st 1 b
     unfolding writeImage
@@ -142,7 +146,7 @@ refusals-change-nothing =
       lines = line-untouched;
       one = line-one;
       others = line-others;
-      restarts = λ st z. ⊎-elim (λ w. absurd (z (ap (λ (o : Begun). o .number) (restart-fine st w)))) (λ w. ap (λ (o : Begun). o .state) (restart-ill st w)) (either (wellFormed st));
+      restarts = restart-untouched;
       images = λ st b. image-case st b (λ o. (o .number ≡ 0 → ⊥) → o ≡ refused st (o .number) b) (λ z. refl) (λ z. refl) (λ z. absurd (z refl));
       image-keeps = λ st b. image-case st b (λ o. o .state ≡ st) refl refl refl;
     }

@@ -1,6 +1,6 @@
 -- One system replaced, or one put last: chains that do not meet it are as they were, and no ring arises where its predecessor's chain does not meet it.
 use Prim.Native.Nat.{ℕ, zero, suc, _-_, _≤_, _<_}
-use mathlib.Core.Path.{_≡_, refl, sym, ap, _∙_}
+use mathlib.Core.Path.{_≡_, refl, ap, _∙_}
 use mathlib.Core.List.{List, [], _∷_, _++_}
 use mathlib.Core.Bool.{true}
 use native.Mathlib.Omega.{arith}
@@ -70,7 +70,10 @@ module _ (l : List System) (k : ℕ) (s : System) (pos : 0 < k) where
                 at (suc j) p e = ap (λ (s : System). s .pred) e
 
             go : Dec (q ≡ k) → (g : ℕ) × (hop l′ g (predOf l q) ≡ 0) → (g : ℕ) × (hop l′ g q ≡ 0)
-            go (yes y) r = (suc (length l), ap (hop l′ (suc (length l))) y ∙ hop-next l′ (length l) k ∙ ap (hop l′ (length l)) new-pred ∙ replaced-hop (s .pred) off (length l) ∙ ring-free l free (s .pred) place)
+            go (yes y) r =
+                let e : hop l′ (suc (length l)) q ≡ hop l′ (length l) (s .pred) =
+                ap (hop l′ (suc (length l))) y ∙ hop-next l′ (length l) k ∙ ap (hop l′ (length l)) new-pred in
+                (suc (length l), e ∙ replaced-hop (s .pred) off (length l) ∙ ring-free l free (s .pred) place)
             go (no n) r = (suc (r .0), ap (hop l′ (r .0)) (alike-here l l′ q (replaced-other q n) .pred) ∙ r .1)
 
         pub replaced-no-ring : noRing (set l (k - 1) s) ≡ true
@@ -109,7 +112,8 @@ module _ (l : List System) (s : System) where
         go q (yes e) h =
             let l′ = l ++ (s ∷ []) in
             let new-pred : predOf l′ (suc (length l)) ≡ s .pred = ap (λ (s : System). s .pred) added-new in
-            ap (hop l′ (suc (length l))) e ∙ hop-next l′ (length l) (suc (length l)) ∙ ap (hop l′ (length l)) new-pred ∙ added-hop (s .pred) p (length l) ∙ ring-free l free (s .pred) p
+            ap (hop l′ (suc (length l))) e ∙ hop-next l′ (length l) (suc (length l)) ∙ ap (hop l′ (length l)) new-pred
+            ∙ added-hop (s .pred) p (length l) ∙ ring-free l free (s .pred) p
         go q (no n) h =
             let k : q ≤ length l = omega arith in
             added-hop q k (suc (length l)) ∙ hop-past l (length l) (suc (length l)) q (omega arith) (ring-free l free q k)

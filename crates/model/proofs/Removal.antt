@@ -106,7 +106,8 @@ module _ (l : List System) (a : ℕ) (pos : 0 < a) (there : a ≤ length l) wher
   pub without-length : length (without l a) ≡ length l - 1
   without-length =
       let k = take (a - 1) l ++ drop a l in
-      length-map k (mendedSystem a (systemAt l a .pred)) ∙ omega (arith, length-append (take (a - 1) l) (drop a l), length-take-le (a - 1) l (omega arith), length-drop a l)
+      length-map k (mendedSystem a (systemAt l a .pred))
+      ∙ omega (arith, length-append (take (a - 1) l) (drop a l), length-take-le (a - 1) l (omega arith), length-drop a l)
 
   -- the place's old system, by its index
   without-at : (j : ℕ) → getD (take (a - 1) l ++ drop a l) j blank ≡ systemAt l (old a (suc j))
@@ -117,12 +118,16 @@ module _ (l : List System) (a : ℕ) (pos : 0 < a) (there : a ≤ length l) wher
       front = length-take-le (a - 1) l (omega arith)
 
       go : Dec (suc j < a) → getD (take (a - 1) l ++ drop a l) j blank ≡ systemAt l (old a (suc j))
-      go (yes h) = rw (old-low a (suc j) h) (List·getD-append (take (a - 1) l) (drop a l) blank j (omega (arith, front)) ∙ getD-take (a - 1) l j blank (omega arith))
+      go (yes h) =
+          rw (old-low a (suc j) h)
+          (List·getD-append (take (a - 1) l) (drop a l) blank j (omega (arith, front)) ∙ getD-take (a - 1) l j blank (omega arith))
       go (no h) =
           let r = j - (a - 1) in
           let e : j ≡ length (take (a - 1) l) + r = omega (arith, front) in
           let s : a + r ≡ suc j = omega arith in
-          rw (old-high a (suc j) (omega arith)) (ap (λ n. getD (take (a - 1) l ++ drop a l) n blank) e ∙ getD-append-add (take (a - 1) l) (drop a l) r blank ∙ getD-drop a l r blank ∙ ap (λ n. getD l n blank) s)
+          rw (old-high a (suc j) (omega arith))
+          (ap (λ n. getD (take (a - 1) l ++ drop a l) n blank) e
+          ∙ getD-append-add (take (a - 1) l) (drop a l) r blank ∙ getD-drop a l r blank ∙ ap (λ n. getD l n blank) s)
 
   blank-kept : mendedSystem a p blank ≡ blank
   blank-kept = rw (mended-zero a p pos)
@@ -173,7 +178,7 @@ module _ (l : List System) (a : ℕ) (pos : 0 < a) (there : a ≤ length l) wher
   -- ---- no ring
 
   module _ (places : InRange l) (free : noRing l ≡ true) where
-    pred-of-gone : predOf l a ≡ systemAt l a .pred
+    pub pred-of-gone : predOf l a ≡ systemAt l a .pred
     unfolding predOf
     pred-of-gone = go a pos
       where
@@ -186,7 +191,9 @@ module _ (l : List System) (a : ℕ) (pos : 0 < a) (there : a ≤ length l) wher
     not-its-own e = let z = no-return l (length l) 0 a (ring-free l free a there) (pred-of-gone ∙ e) in omega arith
 
     pub removed-in-range : InRange (without l a)
-    removed-in-range j = rw (removed-at j, without-length) (mended-in-range a (systemAt l a .pred) pos (length l) _ there (places a) not-its-own (places (old a j)))
+    removed-in-range j =
+        rw (removed-at j, without-length)
+        (mended-in-range a (systemAt l a .pred) pos (length l) _ there (places a) not-its-own (places (old a j)))
 
     -- a chain that ended still ends: one link fewer where a was on it
     removed-ends : (f q : ℕ) → hop l f q ≡ 0 → (g : ℕ) × (hop (without l a) g (mended a (systemAt l a .pred) q) ≡ 0)
@@ -199,7 +206,8 @@ module _ (l : List System) (a : ℕ) (pos : 0 < a) (there : a ≤ length l) wher
 
         go : Dec (q ≡ a) → (g : ℕ) × (hop (without l a) g (mended a b (predOf l q)) ≡ 0) → (g : ℕ) × (hop (without l a) g (mended a b q) ≡ 0)
         go (yes y) r =
-            let e : mended a b q ≡ mended a b (predOf l q) = ap (mended a b) y ∙ mended-gone a b ∙ sym (mended-pred a b) ∙ ap (mended a b) (sym pred-of-gone ∙ ap (predOf l) (sym y)) in
+            let e : mended a b q ≡ mended a b (predOf l q) =
+            ap (mended a b) y ∙ mended-gone a b ∙ sym (mended-pred a b) ∙ ap (mended a b) (sym pred-of-gone ∙ ap (predOf l) (sym y)) in
             (r .0, ap (hop (without l a) (r .0)) e ∙ r .1)
         go (no n) r = (suc (r .0), ap (hop (without l a) (r .0)) (removed-alike q n .pred) ∙ r .1)
 

@@ -1,21 +1,22 @@
 -- A removal keeps a memory well formed: every place that is held, a predecessor's or an enabled one, is mended.
-use Prim.Native.Nat.{ℕ, zero, suc, _+_, _-_, _≤_, _<_}
-use mathlib.Core.Path.{_≡_, refl, sym, ap, _∙_}
+use Prim.Native.Nat.{ℕ, _+_, _≤_, _<_}
+use mathlib.Core.Path.{_≡_, sym, ap, _∙_}
 use mathlib.Core.List.{List}
-use mathlib.Core.Bool.{Bool, true, false}
+use mathlib.Core.Bool.{true, false}
 use native.Mathlib.Omega.{arith}
 use native.Mathlib.Decide.{decLt, ℕ-discrete}
 use lib.ListN.{length}
-use Rattle.model.specs.Types.{Kind, Ksd, Kst, Ksw, Ksb, Kld, Enabled, OperatingPart, Single, Pair}
+use Rattle.model.specs.Types.{Kind, Ksd, Kst, Ksw, Ksb, Kld, OperatingPart, Single, Pair}
 use Rattle.model.specs.Memory.{System, Memory, systemAt, isUser, placeNamed}
 use Rattle.model.specs.Chain.{hop}
 use Rattle.model.specs.Use.{nameInUse}
-use Rattle.model.specs.Effects.{mended, mendedPart, mendedEnabled, removedAt}
+use Rattle.model.specs.Effects.{mended, mendedPart, removedAt}
 use Rattle.model.proofs.Relink.{Misses}
 use Rattle.model.proofs.Removal.{old, old-low, old-high, old-mended, mended-old, mended-zero, mended-gone, mended-pred, mended-fixed, mended-in-range, without, without-length, removed-at, not-its-own, removed-no-ring}
-use Rattle.model.proofs.Fine.{Stands, Placed, ownFine, PartPlaced, EnabledPlaced, Systems, Fine, preds-within}
+use Rattle.model.proofs.Fine.{Stands, Placed, PartPlaced, Systems, Fine, preds-within}
 use Rattle.model.proofs.Named.{place-stands, user-place}
-use Rattle.model.proofs.Unused.{PartMisses, Unused, unused-named}
+use Rattle.model.proofs.Frames.{PartHas, EachEnabled}
+use Rattle.model.proofs.Edits.{not-in-use}
 
 module _ (m : Memory) (fine : Fine m) (a : ℕ) (at : Stands (m .systems) a) where
   abbrev l : List System
@@ -65,7 +66,9 @@ module _ (m : Memory) (fine : Fine m) (a : ℕ) (at : Stands (m .systems) a) whe
         few = omega (arith, without-length l a (at .0) (at .1), fine .systems .few);
         own = λ x h. rw (removed-at l a (at .0) (at .1) x) (fine .systems .own (old a x) (old-stands x h));
         preds = λ x. rw (removed-at l a (at .0) (at .1) x) (carried (systemAt l (old a x) .kind) (systemAt l (old a x) .pred) (fine .systems .preds (old a x)));
-        differ = λ i j h g e. sym (mended-old a p (at .0) i) ∙ ap (mended a p) (fine .systems .differ (old a i) (old a j) (old-stands i h) (old-stands j g) (sym (name-at i) ∙ e ∙ name-at j)) ∙ mended-old a p (at .0) j;
+        differ = λ i j h g e.
+            let q = fine .systems .differ (old a i) (old a j) (old-stands i h) (old-stands j g) (sym (name-at i) ∙ e ∙ name-at j) in
+            sym (mended-old a p (at .0) i) ∙ ap (mended a p) q ∙ mended-old a p (at .0) j;
       }
     where
       name-at : (x : ℕ) → systemAt (without l a) x .name ≡ systemAt l (old a x) .name
@@ -81,7 +84,7 @@ module _ (m : Memory) (fine : Fine m) (a : ℕ) (at : Stands (m .systems) a) whe
       go (yes b) = b
       go (no b) = let z = mended-fixed a p (at .0) q (off 0) (omega arith) in absurd (omega arith)
 
-  part-mended : (o : OperatingPart) → PartMisses l a o → PartPlaced l o → PartPlaced (without l a) (mendedPart (mended a p) o)
+  part-mended : (o : OperatingPart) → PartHas (Misses l a) o → PartPlaced l o → PartPlaced (without l a) (mendedPart (mended a p) o)
   unfolding mendedPart
   part-mended (Single q) off f = carried Ksd q f
   part-mended (Pair w t) off f = (carried Ksw w (f .0), carried Kst t (f .1), go (decLt 0 w))
@@ -90,7 +93,7 @@ module _ (m : Memory) (fine : Fine m) (a : ℕ) (at : Stands (m .systems) a) whe
       go (yes h) = omega (arith, stays w (off .0) h)
       go (no h) = omega (arith, stays t (off .1) (omega (arith, f .2)))
 
-  pub removed-fine : Unused l a (m .enabled) → Fine (removedAt m a)
+  pub removed-fine : EachEnabled (Misses l a) (m .enabled) → Fine (removedAt m a)
   unfolding removedAt
   removed-fine u =
       record {
@@ -105,4 +108,4 @@ module _ (m : Memory) (fine : Fine m) (a : ℕ) (at : Stands (m .systems) a) whe
 
 -- by name
 pub remove-fine : (m : Memory) → Fine m → (a : List ℕ) → isUser m a ≡ true → nameInUse m a ≡ false → Fine (removedAt m (placeNamed (m .systems) a))
-remove-fine m f a user eleven = removed-fine m f (placeNamed (m .systems) a) (place-stands (m .systems) a (user-place m a user)) (unused-named m f a user eleven)
+remove-fine m f a user eleven = removed-fine m f (placeNamed (m .systems) a) (place-stands (m .systems) a (user-place m a user)) (not-in-use m f a user eleven)

@@ -1,6 +1,6 @@
 -- Laws of chains that end: their steps, their places, what is on them, and the resultant.
 use Prim.Native.Nat.{ℕ, zero, suc, _≤_, _<_}
-use mathlib.Core.Path.{_≡_, refl, sym, ap, _∙_}
+use mathlib.Core.Path.{_≡_, refl, sym, _∙_}
 use mathlib.Core.List.{List, [], _∷_}
 use mathlib.Core.Bool.{true, false}
 use native.Mathlib.Omega.{arith}
@@ -8,11 +8,11 @@ use native.Mathlib.Decide.{decLt}
 use borrow.Author.Tests.{eq-eqb, ne-eqb, eqb-true, eqb-false}
 use lib.Dec.{eqb}
 use lib.ListN.{length, getD}
-use Rattle.model.specs.Lists.{any, table, least}
-use Rattle.model.specs.Pose.{Pose, followed, neutral}
-use Rattle.model.specs.Memory.{System, systemAt}
+use Rattle.model.specs.Lists.{table}
+use Rattle.model.specs.Pose.{followed, neutral}
+use Rattle.model.specs.Memory.{System}
 use Rattle.model.specs.Chain.{predOf, hop, steps, chain, onChain, ownPose, poseOver, resultant}
-use Rattle.model.proofs.Basics.{any-at, any-none, any-where, least-le, least-hit, least-miss, least-is, length-table, table-at}
+use Rattle.model.proofs.Basics.{any-at, any-where, least-hit, least-miss, least-is, length-table, table-at}
 use Rattle.model.proofs.Hops.{hop-past, hop-next}
 
 -- the chain of q ends within as many links as there are systems; `ring-free` gives it for every place of a list without a ring

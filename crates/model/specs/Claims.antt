@@ -1,17 +1,21 @@
--- What is claimed of every call, in the owners' words: a refusal changes nothing, its number is exact, and a well-formed state stays well formed.
--- The statements only; proofs/ has the proofs (Refusing, Exact, Kept).
+-- What is claimed of every call, in the owners' words: a refusal changes nothing, its number is exact, a line asks for nothing illegal, and a well-formed
+-- state stays well formed. The statements only; proofs/ has the proofs (Refusing, Exact, Reading, Kept).
 use Prim.Native.Nat.{_≤_, _<_}
 use mathlib.Core.Path.{_≡_}
 use mathlib.Core.Logic.{_↔_}
-use Rattle.model.specs.Base.{ℕ, List, [], _∷_, Bool, true, false, _&&_, none, eqb, leb, ltb}
+use Rattle.model.specs.Base.{ℕ, List, [], _∷_, Bool, true, false, not, _&&_, _||_, none, some, eqb, leb, ltb}
+use Rattle.model.specs.Types.{Kind, Vec3, Turns}
 use Rattle.model.specs.Lists.{all, any}
 use Rattle.model.specs.Limits.{largestNumber}
-use Rattle.model.specs.Memory.{State}
-use Rattle.model.specs.WellFormed.{wellFormed}
+use Rattle.model.specs.Kinds.{ofKind}
+use Rattle.model.specs.Memory.{Memory, State, started, restarted}
+use Rattle.model.specs.Words.{legalName}
+use Rattle.model.specs.WellFormed.{offsetsFine, turnsFine, noOffset, wellFormed}
+use Rattle.model.specs.Request.{reading, asks, change, define, copy, setLevel}
 use Rattle.model.specs.Refusals.{Rung, short, ladder}
 use Rattle.model.specs.Effects.{withError}
-use Rattle.model.specs.Image.{accepted}
-use Rattle.model.specs.Machine.{Outcome, refused, began, stepped, restart, writeImage, startFactory, startImage}
+use Rattle.model.specs.Image.{image, accepted}
+use Rattle.model.specs.Machine.{Outcome, refused, answered, began, stepped, restart, writeImage, startFactory, startImage}
 use Rattle.model.specs.Trace.{Call, Line, afterCalls, afterLines}
 use Rattle.model.specs.Demand.{Start, startState}
 
@@ -61,12 +65,27 @@ pub record NumberExact (st : State) (line b : List ℕ) : Type 0 where
 -- [Image; Errors 1, 2, 14] the calls that are no lines: a restart meets only 1, writing only 1 and 2, a start only 14
 pub record OtherNumbersExact : Type 0 where
   pub restart-one : (st : State) → wellFormed st ≡ false → restart st ≡ began st 1
-  pub restart-taken : (st : State) → wellFormed st ≡ true → restart st .number ≡ 0
+  pub restart-taken : (st : State) → wellFormed st ≡ true → restart st ≡ began (restarted st) 0
   pub image-one : (st : State) (b : List ℕ) → wellFormed st ≡ false → writeImage st b ≡ refused st 1 b
   pub image-two : (st : State) (b : List ℕ) → wellFormed st ≡ true → short b ≡ true → writeImage st b ≡ refused st 2 b
-  pub image-taken : (st : State) (b : List ℕ) → wellFormed st ≡ true → short b ≡ false → writeImage st b .number ≡ 0
-  pub start-refused : (bytes : List ℕ) → startImage bytes .number ≡ 14 ↔ accepted bytes ≡ none
-  pub start-factory : (bytes : List ℕ) → accepted bytes ≡ none → startImage bytes ≡ began startFactory 14
+  pub image-taken : (st : State) (b : List ℕ) → wellFormed st ≡ true → short b ≡ false → writeImage st b ≡ answered st (image (st .permanent)) b
+  pub start-refused : (bytes : List ℕ) → accepted bytes ≡ none → startImage bytes ≡ began startFactory 14
+  pub start-taken : (bytes : List ℕ) (m : Memory) → accepted bytes ≡ some m → startImage bytes ≡ began (started m) 0
+
+-- ---- a line asks for nothing illegal
+
+-- [Memory 2; A line; Commands, KSD] of a definition: the name is legal, the offsets are within the limit, the turns 0 to 3 quarters; no offset with KSB
+pub record LegalDefinition (k : Kind) (n : List ℕ) (t : Vec3) (u : Turns) : Type 0 where
+  pub name : legalName n ≡ true
+  pub offsets : offsetsFine t ≡ true
+  pub turns : turnsFine u ≡ true
+  pub flat : not (ofKind k .turnsOnly) || noOffset t ≡ true
+
+-- [A line; Errors 5, 6] whatever its bytes
+pub record AsksNothingIllegal : Type 0 where
+  pub definitions : (line : List ℕ) (k : Kind) (n : List ℕ) (t : Vec3) (u : Turns) → reading line ≡ asks (change (define k n t u)) → LegalDefinition k n t u
+  pub copies : (line s d : List ℕ) → reading line ≡ asks (change (copy s d)) → legalName d ≡ true
+  pub levels : (line : List ℕ) (n : ℕ) → reading line ≡ asks (change (setLevel n)) → n ≤ 1
 
 -- ---- well-formedness is kept
 

@@ -1,19 +1,19 @@
 -- Demand 3, with document 01, "The two lists of demand 3": the claim, as one statement about both whole lists. The statement only; it is proved in proofs/.
 use Prim.Native.Nat.{_≤_, _<_}
 use mathlib.Core.Path.{_≡_}
-use Rattle.model.specs.Base.{ℕ, List, [], _∷_, _++_, map, Bool, true, false, not, _&&_, _||_, Option, some, eqb, length}
-use Rattle.model.specs.Types.{Group, Operating, Orientational, Levelling, Enabled, OperatingPart, Single, Pair}
+use mathlib.Core.Logic.{_⊎_}
+use Rattle.model.specs.Base.{ℕ, List, [], _∷_, _++_, map, Bool, true, false, not, _&&_, some, eqb, length}
+use Rattle.model.specs.Types.{Kind, Ksd, Kst, Ksw, Ksb, Kld, Operating, Orientational, Levelling, OperatingPart, Single, Pair}
 use Rattle.model.specs.Ascii.{ascii}
 use Rattle.model.specs.Limits.{maxSystems, bufferLimit}
-use Rattle.model.specs.Memory.{System, Memory, State, Ref, nameOf}
+use Rattle.model.specs.Memory.{System, Memory, State, Ref, systemAt, nameOf}
 use Rattle.model.specs.Pose.{Pose}
 use Rattle.model.specs.Chain.{hop, chain, resultant}
 use Rattle.model.specs.Use.{inGroup}
-use Rattle.model.specs.WellFormed.{enabledFine}
-use Rattle.model.specs.Request.{Change, Request, Reading, reading, unknown, malformed, beyond, asks, change, list, lastError, define, link, copy, remove, enable, setLevel, save, restore, reset}
+use Rattle.model.specs.Request.{Change, Reading, reading, unknown, malformed, beyond, asks, change, list, lastError, define, link, copy, remove, enable, setLevel, save, restore, reset}
 use Rattle.model.specs.Reply.{decimal, listing, everySystem, resultantLine}
 use Rattle.model.specs.Image.{accepted}
-use Rattle.model.specs.Machine.{Outcome, answered, stepped, startFactory, startImage}
+use Rattle.model.specs.Machine.{answered, stepped, startFactory, startImage}
 use Rattle.model.specs.Trace.{Call, Line, afterCalls, afterLines}
 
 -- [Two lists 1] a start: the factory state, or the state that an accepted image gives
@@ -45,12 +45,16 @@ asksToEnable (asks (change c)) = changesEnabled c
 asksToEnable (asks (list q)) = false
 asksToEnable (asks lastError) = false
 
--- [Two lists 1] no accepted KEN, RPA or DPA among the lines, each judged at its turn
-unfoldable pub steady : State → List Line → Bool
-steady st [] = true
-steady st (c ∷ cs) =
+-- [Two lists 1] none of the lines that ask for such a thing is accepted, each judged at its turn
+unfoldable pub noneTaken : (Reading → Bool) → State → List Line → Bool
+noneTaken p st [] = true
+noneTaken p st (c ∷ cs) =
     let o = stepped st (c .bytes) (c .buffer) in
-    not (eqb (o .number) 0 && asksToEnable (reading (c .bytes))) && steady (o .state) cs
+    not (eqb (o .number) 0 && p (reading (c .bytes))) && noneTaken p (o .state) cs
+
+-- [demand 3] no accepted KEN, RPA or DPA among the lines
+abbrev pub steady : State → List Line → Bool
+steady = noneTaken asksToEnable
 
 -- [Two lists 2] what is compared of an enabled system: its name, its chain by name, its resultant and steps
 pub record Held : Type 0 where
@@ -62,12 +66,9 @@ pub record Held : Type 0 where
 unfoldable pub held : Memory → Ref → Held
 held m r =
     let l = m .systems in
-    record {
-      name = nameOf l r;
-      chain = map (λ q. nameOf l (inGroup (r .group) q)) (package.Rattle.model.specs.Chain.chain l (r .place));
-      resultant = package.Rattle.model.specs.Chain.resultant l (r .place);
-      steps = length (package.Rattle.model.specs.Chain.chain l (r .place));
-    }
+    let places = chain l (r .place) in
+    let pose = resultant l (r .place) in
+    record { name = nameOf l r; chain = map (λ q. nameOf l (inGroup (r .group) q)) places; resultant = pose; steps = length places }
 
 -- one system, or work and tool
 pub data HeldPart : Type 0 where
@@ -92,20 +93,51 @@ frames m =
       levelling = held m (inGroup Levelling (m .enabled .levelling));
     }
 
--- [demand 3] of one memory: in each group one system or pair is enabled (the type `Enabled` has exactly that), defined and of the allowed types; and the
--- chain of every system, at place q, ends at its group's fixed system in at most 16 steps
-pub record Sound (m : Memory) : Type 0 where
-  pub enabled : enabledFine (m .systems) (m .enabled) ≡ true
-  pub ends : (q : ℕ) → q ≤ length (m .systems) → hop (m .systems) (length (chain (m .systems) q)) q ≡ 0
-  pub short : (q : ℕ) → q ≤ length (m .systems) → length (chain (m .systems) q) ≤ maxSystems
+-- ---- what is so of one memory
 
--- [Two lists 2] KLT? sent next: refused only with 2; otherwise a line for each system, which ends in the steps of its chain
+-- [Two lists 2] place p is defined in the memory, and of the type: the group's fixed system, or a user system of that type
+abbrev pub Defined : List System → Kind → ℕ → Type 0
+Defined l k p = (p ≡ 0) ⊎ ((p ≤ length l) × (systemAt l p .kind ≡ k))
+
+-- [Memory 3] one of ZERO or KSD, or a KSW and a KST of which one, never both, may be the substitute ZERO
+abbrev pub OperatingDefined : List System → OperatingPart → Type 0
+OperatingDefined l (Single p) = Defined l Ksd p
+OperatingDefined l (Pair w t) = Defined l Ksw w × Defined l Kst t × ((w ≡ 0) × (t ≡ 0) → ⊥)
+
+-- [Memory 3; demand 3] the chain of the system at place q reaches its group's fixed system in at most 16 steps
+pub record Reaches (l : List System) (q : ℕ) : Type 0 where
+  -- as many links as there are systems on the chain lead to the fixed system, and fewer do not
+  pub ends : hop l (length (chain l q)) q ≡ 0
+  pub before : (i : ℕ) → i < length (chain l q) → hop l i q ≡ 0 → ⊥
+  -- every system on the way has the type of the first, so the fixed system is that of its group
+  pub kind : (i : ℕ) → i < length (chain l q) → systemAt l (hop l i q) .kind ≡ systemAt l q .kind
+  pub short : length (chain l q) ≤ maxSystems
+
+-- [demand 3] in each group one system or pair is enabled (the type `Enabled` has exactly that), all defined and of the allowed types; and every chain,
+-- enabled or not, reaches its end, a fixed system's being empty
+pub record Sound (m : Memory) : Type 0 where
+  pub operating : OperatingDefined (m .systems) (m .enabled .operating)
+  pub orientational : Defined (m .systems) Ksb (m .enabled .orientational)
+  pub levelling : Defined (m .systems) Kld (m .enabled .levelling)
+  pub fixed : chain (m .systems) 0 ≡ []
+  pub reaches : (q : ℕ) → q ≤ length (m .systems) → Reaches (m .systems) q
+
+-- ---- KLT? sent next
+
+-- a line with these bytes can be refused only with 2; otherwise it gives this reply and changes nothing
+pub record Replies (st : State) (line text : List ℕ) : Type 0 where
+  pub short : (b : List ℕ) → length b < bufferLimit → stepped st line b .number ≡ 2
+  pub taken : (b : List ℕ) → bufferLimit ≤ length b → stepped st line b ≡ answered st text b
+
+-- [Two lists 2] a line for each system, which begins with its name and ends in the steps of its chain
 pub record Listed (st : State) : Type 0 where
-  pub refused : (b : List ℕ) → length b < bufferLimit → stepped st (ascii "KLT?") b .number ≡ 2
-  pub replies : (b : List ℕ) → bufferLimit ≤ length b →
-      stepped st (ascii "KLT?") b ≡ answered st (listing (map (resultantLine (st .volatile .systems)) (everySystem (st .volatile .systems)))) b
-  pub steps : (r : Ref) → (head : List ℕ) ×
-      (resultantLine (st .volatile .systems) r ≡ head ++ (ascii " Steps=" ++ decimal (length (chain (st .volatile .systems) (r .place)))))
+  pub shown : Replies st (ascii "KLT?") (listing (map (resultantLine (st .volatile .systems)) (everySystem (st .volatile .systems))))
+  pub steps : (r : Ref) → (rest : List ℕ) ×
+      (resultantLine (st .volatile .systems) r
+      ≡ ascii "Name=" ++ (nameOf (st .volatile .systems) r ++ (ascii " EndCoordinateSystem=" ++ (rest
+      ++ (ascii " Steps=" ++ decimal (length (chain (st .volatile .systems) (r .place))))))))
+
+-- ---- demand 3
 
 -- what is so after both lists: st when the second list began, st′ after it
 pub record AfterBoth (st st′ : State) : Type 0 where

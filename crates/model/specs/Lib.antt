@@ -18,9 +18,11 @@ pub mod Effects
 pub mod Reply
 pub mod Refusals
 pub mod Image
+pub mod ImageClaims
 pub mod Machine
 pub mod Trace
 pub mod Demand
 pub mod Claims
+pub mod Checklist
 pub mod Table
 pub mod Stored

@@ -1,0 +1,44 @@
+-- For callers: the edits of the definitions go by name, those of the code by the place that the name has; and what a found place is good for.
+use Prim.Native.Nat.{ℕ, _≤_}
+use mathlib.Core.Path.{_≡_, refl, ap, _∙_}
+use mathlib.Core.Bool.{true}
+use mathlib.Core.List.{List}
+use native.Mathlib.Omega.{arith}
+use lib.ListN.{length, length-map, length-take}
+use Rattle.model.specs.declared.Memory.{Memory as StoredMemory}
+use Rattle.model.specs.Limits.{maxSystems}
+use Rattle.model.specs.Memory.{System, Memory, systemAt, placeNamed, isUser, named, userNamed}
+use Rattle.model.specs.Effects.{put, linked, withPred, withName}
+use Rattle.model.specs.Stored.{systemsOf, memoryShaped}
+use Rattle.model.proofs.Named.{user-place, place-name, named-place}
+use Rattle.memory.specs.Put.{putAt}
+use Rattle.memory.proofs.Shape.{shaped-count}
+
+-- a system is put at the place that its name has
+pub put-by-place : (m : Memory) (s : System) → put m s ≡ putAt m (placeNamed (m .systems) (s .name)) s
+unfolding put putAt isUser
+put-by-place m s = refl
+
+-- a copy goes to the place of its own name
+pub copied-by-place : (m : Memory) (a d : List ℕ) → put m (withName (userNamed m a) d) ≡ putAt m (placeNamed (m .systems) d) (withName (systemAt (m .systems) (placeNamed (m .systems) a)) d)
+copied-by-place m a d = put-by-place m (withName (userNamed m a) d)
+
+-- a link is put at the place of the system that it changes
+pub linked-by-place : (m : Memory) (a b : List ℕ) → isUser m a ≡ true
+    → linked m a b ≡ putAt m (placeNamed (m .systems) a) (withPred (systemAt (m .systems) (placeNamed (m .systems) a)) (placeNamed (m .systems) b))
+unfolding linked
+linked-by-place m a b u =
+    let s = withPred (userNamed m a) (named m b .place) in
+    let e = place-name (m .systems) a (user-place m a u) in
+    put-by-place m s
+    ∙ ap (λ (n : List ℕ). putAt m (placeNamed (m .systems) n) s) e
+    ∙ ap (λ (q : ℕ). putAt m (placeNamed (m .systems) a) (withPred (userNamed m a) q)) (named-place m b)
+
+module _ (m : StoredMemory) (e : memoryShaped m ≡ true) where
+  -- a place within the systems is within the array
+  pub few-systems : length (systemsOf m) ≤ maxSystems
+  few-systems = simp (length-map, length-take) (omega (arith, shaped-count m e))
+
+  -- the count is the number of systems
+  pub count-systems : length (m .systems) ≡ 16 → length (systemsOf m) ≡ m .count
+  count-systems h = simp (length-map, length-take) (omega (arith, shaped-count m e))

@@ -1,0 +1,74 @@
+-- The parts in which the code judges a memory make up the definition.
+use Prim.Native.Nat.{_<_, _≤_}
+use mathlib.Core.Path.{_≡_, refl, sym}
+use mathlib.Core.List.{List, [], _∷_, map}
+use mathlib.Core.Bool.{Bool, true, false, _&&_, _||_}
+use native.Mathlib.Omega.{arith}
+use borrow.Author.Tests.{le-leb, lt-leb}
+use lib.Dec.{leb, eqb}
+use lib.ListN.{length, take, length-map, length-take}
+use Rattle.model.specs.declared.Memory.{Memory as StoredMemory}
+use Rattle.model.specs.declared.State.{State as StoredState}
+use Rattle.model.specs.Lists.{all, between}
+use Rattle.model.specs.Limits.{largestNumber}
+use Rattle.model.specs.Memory.{System}
+use Rattle.model.specs.Chain.{noRing}
+use Rattle.model.specs.WellFormed.{isKind, systemFine, namesDiffer, enabledFine, memoryFine, wellFormed}
+use Rattle.model.specs.Stored.{systemOf, systemsOf, memoryOf, stateOf, nameShaped, memoryShaped, shaped}
+use Rattle.model.proofs.Basics.{and-assoc}
+use Rattle.memory.proofs.Tests.{and-true, and-false}
+use Rattle.memory.specs.Fine.{aloneFine, storedFine, storedAllFine}
+
+pub alone-and-link : (l : List System) (s : System) → systemFine l s ≡ aloneFine s && isKind l (s .kind) (s .pred)
+unfolding systemFine aloneFine
+alone-and-link l s = refl
+
+and-swap : (a b c d : Bool) → (a && b) && (c && d) ≡ (a && c) && (b && d)
+and-swap true true c d = refl
+and-swap true false true d = refl
+and-swap true false false d = refl
+and-swap false b c d = refl
+
+-- two tests, one of them of what an element stands for, in one pass
+all-both : {A B : Type 0} (p : A → Bool) (q : B → Bool) (f : A → B) (l : List A) → all p l && all q (map f l) ≡ all (λ (x : A). p x && q (f x)) l
+unfolding all
+all-both p q f [] = refl
+all-both p q f (x ∷ l) = rw (and-swap (p x) (all p l) (q (f x)) (all q (map f l)), all-both p q f l)
+
+regroup : (s f n r e : Bool) → s && (((f && n) && r) && e) ≡ ((s && f) && e) && (n && r)
+regroup true true true true e = sym (and-true e)
+regroup true true true false e = sym (and-false e)
+regroup true true false r e = sym (and-false e)
+regroup true false n r e = refl
+regroup false f n r e = refl
+
+module _ (m : StoredMemory) where
+  pub stored-all : all nameShaped (take (m .count) (m .systems)) && all (systemFine (systemsOf m)) (systemsOf m) ≡ storedAllFine m
+  unfolding storedAllFine storedFine
+  stored-all = all-both nameShaped (systemFine (systemsOf m)) systemOf (take (m .count) (m .systems))
+
+  pub judged-long : 16 < m .count → memoryShaped m && memoryFine (memoryOf m) ≡ false
+  unfolding memoryShaped
+  judged-long h = rw (lt-leb (m .count) 16 h)
+
+  pub judged : m .count ≤ 16 → memoryShaped m && memoryFine (memoryOf m)
+      ≡ (storedAllFine m && enabledFine (systemsOf m) (m .enabled)) && (namesDiffer (systemsOf m) && noRing (systemsOf m))
+  unfolding memoryShaped memoryFine
+  judged h =
+      let few : length (systemsOf m) ≤ 16 = simp (length-map, length-take) (omega arith) in
+      rw (le-leb (m .count) 16 h, le-leb (length (systemsOf m)) 16 few, ← stored-all)
+      (regroup (all nameShaped (take (m .count) (m .systems))) (all (systemFine (systemsOf m)) (systemsOf m)) _ _ _)
+
+rotate : (s f v : Bool) → s && (f && v) ≡ v && (s && f)
+rotate true true v = sym (and-true v)
+rotate true false v = sym (and-false v)
+rotate false f v = sym (and-false v)
+
+-- a stored state: its level and last error, and each memory
+pub state-judged : (s : StoredState) → shaped s && wellFormed (stateOf s)
+    ≡ (leb (s .level) 1 && (eqb (s .error) 0 || between 2 largestNumber (s .error)))
+    && ((memoryShaped (s .volatile) && memoryFine (memoryOf (s .volatile))) && (memoryShaped (s .permanent) && memoryFine (memoryOf (s .permanent))))
+unfolding shaped wellFormed
+state-judged s =
+    rw (and-assoc (memoryFine (memoryOf (s .volatile)) && memoryFine (memoryOf (s .permanent))) (leb (s .level) 1) (eqb (s .error) 0 || between 2 largestNumber (s .error)), and-swap (memoryShaped (s .volatile)) (memoryFine (memoryOf (s .volatile))) (memoryShaped (s .permanent)) (memoryFine (memoryOf (s .permanent))))
+    (rotate (memoryShaped (s .volatile) && memoryShaped (s .permanent)) (memoryFine (memoryOf (s .volatile)) && memoryFine (memoryOf (s .permanent))) _)

@@ -1,0 +1,61 @@
+-- Shape is kept where a system with shape is stored.
+use Prim.Native.Nat.{ℕ, zero, suc, _+_, _<_, _≤_}
+use mathlib.Core.Path.{_≡_, refl}
+use mathlib.Core.List.{List, [], _∷_}
+use mathlib.Core.Bool.{Bool, true}
+use native.Mathlib.Omega.{arith}
+use native.Mathlib.Decide.{decLt}
+use native.Mathlib.Numerals.{add-one}
+use borrow.Author.Tests.{le-leb, leb-true}
+use lib.Dec.{leb}
+use lib.ListN.{length, take, getD, set}
+use lib.Seq.{take-set-lt, take-set-le, take-suc-set, getD-take, length-take-le}
+use Rattle.model.specs.declared.System.{System as StoredSystem}
+use Rattle.model.specs.declared.Memory.{Memory as StoredMemory}
+use Rattle.model.specs.Lists.{all}
+use Rattle.model.specs.Stored.{nameShaped, memoryShaped}
+use Rattle.model.proofs.Basics.{and-split, and-join, all-append, all-at}
+
+module _ {A : Type 0} (p : A → Bool) (a : A) (pa : p a ≡ true) where
+  all-set : (l : List A) (i : ℕ) → all p l ≡ true → all p (set l i a) ≡ true
+  unfolding all
+  all-set [] i e = refl
+  all-set (x ∷ l) zero e = and-join pa (and-split (p x) (all p l) e .1)
+  all-set (x ∷ l) (suc i) e = let s = and-split (p x) (all p l) e in and-join (s .0) (all-set l i (s .1))
+
+  all-take-set : (l : List A) (n i : ℕ) → all p (take n l) ≡ true → all p (take n (set l i a)) ≡ true
+  all-take-set l n i e = go (decLt i n)
+    where
+      go : Dec (i < n) → all p (take n (set l i a)) ≡ true
+      go (yes h) = rw (take-set-lt n l i a h) (all-set (take n l) i e)
+      go (no h) = rw (take-set-le n l i a (omega arith)) e
+
+  -- one more at the end of those that pass
+  pub all-more : (l : List A) (n : ℕ) → n < length l → all p (take n l) ≡ true → all p (take (n + 1) (set l n a)) ≡ true
+  unfolding all
+  all-more l n h e = rw (add-one, take-suc-set l n a, all-append p (take n l) (a ∷ [])) (and-join e (and-join pa refl))
+
+module _ (m : StoredMemory) (e : memoryShaped m ≡ true) where
+  pub shaped-count : m .count ≤ 16
+  unfolding memoryShaped
+  shaped-count = leb-true (m .count) 16 (and-split _ _ e .0)
+
+  shaped-names : all nameShaped (take (m .count) (m .systems)) ≡ true
+  unfolding memoryShaped
+  shaped-names = and-split (leb (m .count) 16) _ e .1
+
+  -- a stored system of a memory with shape has shape
+  pub shaped-at : (d : StoredSystem) (i : ℕ) → i < m .count → m .count ≤ length (m .systems) → nameShaped (getD (m .systems) i d) ≡ true
+  shaped-at d i h k =
+      let n = length-take-le (m .count) (m .systems) k in
+      rw (getD-take (m .count) (m .systems) i d h) at (all-at nameShaped (take (m .count) (m .systems)) d i shaped-names (omega arith))
+
+  module _ (s : StoredSystem) (es : nameShaped s ≡ true) where
+    pub shaped-set : (i : ℕ) → memoryShaped (record { systems = set (m .systems) i s; count = m .count; enabled = m .enabled }) ≡ true
+    unfolding memoryShaped
+    shaped-set i = and-join (le-leb (m .count) 16 shaped-count) (all-take-set nameShaped s es (m .systems) (m .count) i shaped-names)
+
+    pub shaped-more : m .count < 16 → m .count < length (m .systems)
+        → memoryShaped (record { systems = set (m .systems) (m .count) s; count = m .count + 1; enabled = m .enabled }) ≡ true
+    unfolding memoryShaped
+    shaped-more h k = and-join (le-leb (m .count + 1) 16 (omega arith)) (all-more nameShaped s es (m .systems) (m .count) k shaped-names)

@@ -1,0 +1,61 @@
+use Prim.Native.Nat.{ℕ, zero, suc}
+use mathlib.Core.Path.{_≡_, refl, _∙_}
+use borrow.Author.Needs.{needs}
+use lib.Dec.{eqb·suc-zero}
+use Rattle.model.specs.declared.Group.the-variants.{Operating}
+use Rattle.model.specs.Memory.{Memory, refOr, userRef, systemAt}
+use Rattle.model.specs.Effects.{enabling}
+use Rattle.model.specs.Use.{inGroup}
+use Rattle.memory.specs.Found.{foundRef}
+use Rattle.memory.proofs.enable.enabling.Statement.{statement}
+use Rattle.memory.proofs.enable.enabling.Tie as tie
+
+-- a user system's own group plays no part
+by-place : (level : ℕ) (m : Memory) (k : ℕ) → enabling level m (inGroup Operating k) ≡ enabling level m (userRef (m .systems) k)
+unfolding enabling systemAt
+by-place level m zero = refl
+by-place level m (suc k) = rw (eqb·suc-zero k)
+
+enum-known-f : tie.Need-enum-known-f
+enum-known-f c = search needs
+
+enabling-at-requires : tie.Need-enabling-at-requires
+enabling-at-requires c κs = search needs
+
+enum-known-f-2 : tie.Need-enum-known-f-2
+enum-known-f-2 c = search needs
+
+enabling-at-requires-2 : tie.Need-enabling-at-requires-2
+enabling-at-requires-2 c κs = search needs
+
+enum-told : tie.Need-enum-told
+enum-told c = search needs
+
+enabling-at-requires-3 : tie.Need-enabling-at-requires-3
+enabling-at-requires-3 c κs = search needs
+
+returns : tie.Need-returns
+unfolding foundRef refOr
+returns c = rw (c .before .before .f .given .1) (c .enabling-at .ensures ∙ by-place _ _ _)
+
+returns-2 : tie.Need-returns-2
+unfolding foundRef refOr
+returns-2 c = rw (c .before .before .f2 .given .1) (c .enabling-at2 .ensures)
+
+returns-3 : tie.Need-returns-3
+unfolding foundRef refOr
+returns-3 c = rw (c .before .enum-told .given .1) (c .enabling-at3 .ensures)
+
+pub enabling-spec : {M : Type 1} → statement M
+enabling-spec =
+    tie.close
+    (tie.spec
+    enum-known-f
+    enabling-at-requires
+    enum-known-f-2
+    enabling-at-requires-2
+    enum-told
+    enabling-at-requires-3
+    returns
+    returns-2
+    returns-3)

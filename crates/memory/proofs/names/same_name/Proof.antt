@@ -1,0 +1,51 @@
+use mathlib.Core.Path.{_≡_, _∙_}
+use borrow.Author.Needs.{needs}
+use lib.ListN.{length}
+use Rattle.memory.proofs.Laws.{name-fits, name-count, name-bytes}
+use Rattle.memory.proofs.names.same_name.Statement.{statement}
+use Rattle.memory.proofs.names.same_name.Tie as tie
+
+long-a : (c : tie.Start) → length (c .args .a .bytes) ≡ 16
+long-a c = search needs
+
+long-b : (c : tie.Start) → length (c .args .b .bytes) ≡ 16
+long-b c = search needs
+
+clipped-requires : tie.Need-clipped-requires
+clipped-requires c κs = search needs
+
+clipped-requires-2 : tie.Need-clipped-requires-2
+clipped-requires-2 c κs = search needs
+
+array-share-prefix-x : tie.Need-array-share-prefix-x
+array-share-prefix-x c = name-fits (c .before .before .before .before .args .a) _ (long-a (c .before .before .before .before)) (c .before .before .before .clipped .ensures)
+
+slice-aggregate-same-bytes : tie.Need-slice-aggregate-same-bytes
+slice-aggregate-same-bytes c = name-count _ _ (long-a (c .before .before .before .before .before)) (c .before .before .before .before .clipped .ensures)
+
+array-share-prefix-y : tie.Need-array-share-prefix-y
+array-share-prefix-y c = name-fits (c .before .before .before .before .before .args .b) _ (long-b (c .before .before .before .before .before)) (c .before .before .before .clipped2 .ensures)
+
+slice-aggregate-same-bytes-2 : tie.Need-slice-aggregate-same-bytes-2
+slice-aggregate-same-bytes-2 c = name-count _ _ (long-b (c .before .before .before .before .before .before)) (c .before .before .before .before .clipped2 .ensures)
+
+same-bytes-requires : tie.Need-same-bytes-requires
+same-bytes-requires c κs = search needs
+
+returns : tie.Need-returns
+returns c =
+    let s = c .before .before .before .before .before .before .before in
+    c .same-bytes .ensures ∙ rw (name-bytes (s .args .a) _ (long-a s) (c .before .before .before .before .before .before .clipped .ensures), name-bytes (s .args .b) _ (long-b s) (c .before .before .before .before .before .clipped2 .ensures))
+
+pub same-name-spec : {M : Type 1} → statement M
+same-name-spec =
+    tie.close
+    (tie.spec
+    clipped-requires
+    clipped-requires-2
+    array-share-prefix-x
+    slice-aggregate-same-bytes
+    array-share-prefix-y
+    slice-aggregate-same-bytes-2
+    same-bytes-requires
+    returns)

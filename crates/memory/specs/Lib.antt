@@ -1,0 +1,4 @@
+pub mod Found
+pub mod Codes
+pub mod Fine
+pub mod Put

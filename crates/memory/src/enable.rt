@@ -1,0 +1,117 @@
+// What is enabled next.
+use crate::find::Found;
+use crate::find::system_at;
+use model::Enabled;
+use model::Group;
+use model::Kind;
+use model::Memory;
+use model::OperatingPart;
+ghost use mathlib.Core.Path.{_≡_};
+ghost use Rattle.model.specs.Memory.{refOr};
+ghost use Rattle.model.specs.Effects.{workHalf, toolHalf, withOperating, withOrientational, withLevelling, enabledUser, enabledFixed, enabling};
+ghost use Rattle.model.specs.Use.{inGroup};
+ghost use Rattle.model.specs.Stored.{systemsOf, memoryOf};
+ghost use Rattle.memory.specs.Found.{foundRef};
+
+fn work_half(o: OperatingPart) -> u8
+    ensures { λ r. ⌜ r ≡ workHalf o ⌝ }
+{
+    match o {
+        OperatingPart::Single(_) => 0,
+        OperatingPart::Pair(w, _) => w,
+    }
+}
+
+fn tool_half(o: OperatingPart) -> u8
+    ensures { λ r. ⌜ r ≡ toolHalf o ⌝ }
+{
+    match o {
+        OperatingPart::Single(_) => 0,
+        OperatingPart::Pair(_, t) => t,
+    }
+}
+
+fn with_operating(e: Enabled, operating: OperatingPart) -> Enabled
+    ensures { λ r. ⌜ r ≡ withOperating e operating ⌝ }
+{
+    Enabled {
+        operating,
+        orientational: e.orientational,
+        levelling: e.levelling,
+    }
+}
+
+fn with_orientational(e: Enabled, place: u8) -> Enabled
+    ensures { λ r. ⌜ r ≡ withOrientational e place ⌝ }
+{
+    let mut r = e;
+    r.orientational = place;
+    r
+}
+
+fn with_levelling(e: Enabled, place: u8) -> Enabled
+    ensures { λ r. ⌜ r ≡ withLevelling e place ⌝ }
+{
+    let mut r = e;
+    r.levelling = place;
+    r
+}
+
+// The user system at a place, by its type.
+fn enabled_user(e: Enabled, kind: Kind, place: u8) -> Enabled
+    ensures { λ r. ⌜ r ≡ enabledUser e kind place ⌝ }
+{
+    let o = e.operating;
+    match kind {
+        Kind::Ksd => with_operating(e, OperatingPart::Single(place)),
+        Kind::Kst => with_operating(e, OperatingPart::Pair(work_half(o), place)),
+        Kind::Ksw => with_operating(e, OperatingPart::Pair(place, tool_half(o))),
+        Kind::Ksb => with_orientational(e, place),
+        Kind::Kld => with_levelling(e, place),
+    }
+}
+
+// A fixed system; ZERO at level 1 brings PI_LEVELLING with it.
+fn enabled_fixed(level: u8, e: Enabled, group: Group) -> Enabled
+    ensures { λ r. ⌜ r ≡ enabledFixed level e group ⌝ }
+{
+    match group {
+        Group::Operating => enabled_zero(level, e),
+        Group::Orientational => with_orientational(e, 0),
+        Group::Levelling => with_levelling(e, 0),
+    }
+}
+
+fn enabled_zero(level: u8, e: Enabled) -> Enabled
+    ensures { λ r. ⌜ r ≡ enabledFixed level e Group.Operating ⌝ }
+{
+    let zero = with_operating(e, OperatingPart::Single(0));
+    if level == 1 {
+        return with_levelling(zero, 0);
+    }
+    zero
+}
+
+// The system of a group at a place: 0 is the fixed one.
+fn enabling_at(level: u8, m: Memory, group: Group, place: u8) -> Enabled
+    ensures { λ r. ⌜ r ≡ enabling level (memoryOf m) (inGroup group place) ⌝ }
+{
+    let e = m.enabled;
+    if place == 0 {
+        return enabled_fixed(level, e, group);
+    }
+    let s = system_at(m, place);
+    let kind = s.kind;
+    enabled_user(e, kind, place)
+}
+
+// What is enabled once the system that was found is. Nothing found counts as ZERO, as in the definitions.
+pub fn enabling(level: u8, m: Memory, f: Found) -> Enabled
+    ensures { λ r. ⌜ r ≡ enabling level (memoryOf m) (refOr (foundRef (systemsOf m) f)) ⌝ }
+{
+    match f {
+        Found::User(place) => enabling_at(level, m, Group::Operating, place),
+        Found::Fixed(group) => enabling_at(level, m, group, 0),
+        Found::Absent => enabling_at(level, m, Group::Operating, 0),
+    }
+}

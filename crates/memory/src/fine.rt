@@ -1,0 +1,215 @@
+// The test for well-formedness: shape is judged on the stored value, all else on what it stands for.
+use crate::kinds::is_kind;
+use crate::kinds::kind_codes;
+use crate::kinds::turns_only;
+use crate::names::name_fine;
+use crate::names::same_name;
+use chains::links::held;
+use chains::links::links_of;
+use chains::links::no_ring;
+use model::Enabled;
+use model::Kind;
+use model::Memory;
+use model::OperatingPart;
+use model::State;
+use model::System;
+use model::Turns;
+use model::Vec3;
+ghost use mathlib.Core.Path.{_≡_};
+ghost use mathlib.Core.Bool.{_&&_, _||_};
+ghost use lib.Dec.{eqb, leb};
+ghost use Rattle.model.specs.Lists.{between};
+ghost use Rattle.model.specs.Limits.{largestNumber};
+ghost use mathlib.Core.List.{List};
+ghost use Rattle.model.specs.Memory.{System as SystemOf};
+ghost use Rattle.model.specs.Chain.{noRing};
+ghost use Rattle.model.specs.Words.{offset?};
+ghost use Rattle.model.specs.WellFormed.{offsetsFine, noOffset, turnsFine, namesDiffer, operatingFine, enabledFine, memoryFine, wellFormed};
+ghost use Rattle.model.specs.Stored.{systemOf, systemsOf, memoryOf, stateOf, memoryShaped, shaped};
+ghost use Rattle.memory.specs.Codes.{codesOf};
+ghost use Rattle.memory.specs.Fine.{aloneFine, storedFine, storedAllFine};
+
+// The limit of an own offset, either way.
+const LEAST: i64 = -1000000000;
+
+const MOST: i64 = 1000000000;
+
+// The largest number with which a line can be refused.
+const LARGEST: u8 = 13;
+
+fn offset_fine(z: i64) -> bool
+    ensures { λ r. ⌜ r ≡ offset? z ⌝ }
+{
+    (LEAST <= z) & (z <= MOST)
+}
+
+fn offsets_fine(t: Vec3) -> bool
+    ensures { λ r. ⌜ r ≡ offsetsFine t ⌝ }
+{
+    offset_fine(t.x) & offset_fine(t.y) & offset_fine(t.z)
+}
+
+fn no_offset(t: Vec3) -> bool
+    ensures { λ r. ⌜ r ≡ noOffset t ⌝ }
+{
+    (t.x == 0) & (t.y == 0) & (t.z == 0)
+}
+
+fn turns_fine(t: Turns) -> bool
+    ensures { λ r. ⌜ r ≡ turnsFine t ⌝ }
+{
+    (t.u <= 3) & (t.v <= 3) & (t.w <= 3)
+}
+
+// All that is asked of a system apart from its predecessor.
+fn alone_fine(s: System) -> bool
+    ensures { λ r. ⌜ r ≡ aloneFine (systemOf s) ⌝ }
+{
+    let name = s.name;
+    if !name_fine(name) {
+        return false;
+    }
+    let offset = s.offset;
+    let turns = s.turns;
+    let kind = s.kind;
+    offsets_fine(offset) & turns_fine(turns) & (!turns_only(kind) | no_offset(offset))
+}
+
+// A stored system, given the codes of all.
+fn stored_fine(s: System, codes: &[u8]) -> bool
+    ensures { λ r. ⌜ ((l : List SystemOf) → codesOf l ≡ now (codes .entry) → r ≡ storedFine l s) ⌝ }
+{
+    let name = s.name;
+    if 16 < name.len {
+        return false;
+    }
+    if !alone_fine(s) {
+        return false;
+    }
+    let kind = s.kind;
+    is_kind(codes, kind, s.pred)
+}
+
+fn systems_fine(m: Memory, codes: &[u8]) -> bool
+    ensures { λ r. ⌜ (codesOf (systemsOf m) ≡ now (codes .entry) → r ≡ storedAllFine m) ⌝ }
+{
+    let count = held(m.count);
+    let mut i = 0;
+    while i < count {
+        let s = m.systems[i];
+        if !stored_fine(s, codes) {
+            return false;
+        }
+        i += 1;
+    }
+    true
+}
+
+fn operating_fine(codes: &[u8], o: OperatingPart) -> bool
+    ensures { λ r. ⌜ ((l : List SystemOf) → codesOf l ≡ now (codes .entry) → r ≡ operatingFine l o) ⌝ }
+{
+    match o {
+        OperatingPart::Single(p) => is_kind(codes, Kind::Ksd, p),
+        OperatingPart::Pair(w, t) => {
+            is_kind(codes, Kind::Ksw, w) & is_kind(codes, Kind::Kst, t) & ((0 < w) | (0 < t))
+        }
+    }
+}
+
+fn enabled_fine(codes: &[u8], e: Enabled) -> bool
+    ensures { λ r. ⌜ ((l : List SystemOf) → codesOf l ≡ now (codes .entry) → r ≡ enabledFine l e) ⌝ }
+{
+    let operating = e.operating;
+    operating_fine(codes, operating)
+        & is_kind(codes, Kind::Ksb, e.orientational)
+        & is_kind(codes, Kind::Kld, e.levelling)
+}
+
+// All that goes by types: every stored system, and what is enabled.
+fn typed_fine(m: Memory) -> bool
+    ensures { λ r. ⌜ r ≡ storedAllFine m && enabledFine (systemsOf m) (m .enabled) ⌝ }
+{
+    let count = held(m.count);
+    let all = kind_codes(m);
+    let codes = &all[..count];
+    if !systems_fine(m, codes) {
+        return false;
+    }
+    let e = m.enabled;
+    enabled_fine(codes, e)
+}
+
+// No two systems have one name: every pair once, the later of the two running fastest.
+fn names_differ(m: Memory) -> bool
+    ensures { λ r. ⌜ r ≡ namesDiffer (systemsOf m) ⌝ }
+{
+    let count = held(m.count);
+    let mut i = 0;
+    let mut j = 1;
+    while i < count {
+        if j < count {
+            let s = m.systems[i];
+            let a = s.name;
+            let t = m.systems[j];
+            let b = t.name;
+            if same_name(a, b) {
+                return false;
+            }
+            j += 1;
+        } else {
+            i += 1;
+            j = i + 1;
+        }
+    }
+    true
+}
+
+// No chain is a ring.
+fn ring_free(m: Memory) -> bool
+    ensures { λ r. ⌜ r ≡ noRing (systemsOf m) ⌝ }
+{
+    let links = links_of(m);
+    let preds = links.preds;
+    let count = links.count;
+    no_ring(&preds[..count])
+}
+
+// A memory has shape and is well formed.
+pub fn memory_fine(m: Memory) -> bool
+    ensures { λ r. ⌜ r ≡ memoryShaped m && memoryFine (memoryOf m) ⌝ }
+{
+    if 16 < m.count {
+        return false;
+    }
+    if !typed_fine(m) {
+        return false;
+    }
+    if !names_differ(m) {
+        return false;
+    }
+    ring_free(m)
+}
+
+// A state has shape and is well formed.
+pub fn state_fine(s: State) -> bool
+    ensures { λ r. ⌜ r ≡ shaped s && wellFormed (stateOf s) ⌝ }
+{
+    let level = s.level;
+    let error = s.error;
+    if !values_fine(level, error) {
+        return false;
+    }
+    let v = s.volatile;
+    if !memory_fine(v) {
+        return false;
+    }
+    let p = s.permanent;
+    memory_fine(p)
+}
+
+// The level, and a last error that a line can leave.
+fn values_fine(level: u8, error: u8) -> bool
+    ensures { λ r. ⌜ r ≡ leb level 1 && (eqb error 0 || between 2 largestNumber error) ⌝ }
+{
+    (level <= 1) & ((error == 0) | ((2 <= error) & (error <= LARGEST)))
+}

@@ -1,0 +1,8 @@
+// The memories of the machine: finding a system by its name, the test for well-formedness, and the edits.
+pub mod edit;
+pub mod enable;
+pub mod factory;
+pub mod find;
+pub mod fine;
+pub mod kinds;
+pub mod names;

@@ -1,0 +1,112 @@
+// Names and texts: the same bytes, and what makes a name legal. A length beyond its array means the whole array.
+use model::Name;
+ghost use mathlib.Core.Path.{_≡_};
+ghost use Prim.Native.Nat.{min};
+ghost use mathlib.Core.Bool.{not, _&&_};
+ghost use Rattle.model.specs.Lists.{same};
+ghost use Rattle.model.specs.Words.{capital, nameByte, legalName, reserved};
+ghost use Rattle.model.specs.Stored.{bytesOf};
+
+// How many bytes a stored name has.
+pub fn clipped(n: u8) -> usize
+    ensures { λ r. ⌜ r ≡ min n 16 ⌝ }
+{
+    if 16 < n {
+        return 16;
+    }
+    n as usize
+}
+
+pub fn same_bytes(a: &[u8], b: &[u8]) -> bool
+    ensures { λ r. ⌜ r ≡ same (now (a .entry)) (now (b .entry)) ⌝ }
+{
+    let n = a.len();
+    if n != b.len() {
+        return false;
+    }
+    let mut i = 0;
+    while i < n {
+        if a[i] != b[i] {
+            return false;
+        }
+        i += 1;
+    }
+    true
+}
+
+pub fn same_name(a: Name, b: Name) -> bool
+    ensures { λ r. ⌜ r ≡ same (bytesOf a) (bytesOf b) ⌝ }
+{
+    let m = clipped(a.len);
+    let n = clipped(b.len);
+    let x = a.bytes;
+    let y = b.bytes;
+    same_bytes(&x[..m], &y[..n])
+}
+
+fn capital_byte(b: u8) -> bool
+    ensures { λ r. ⌜ r ≡ capital b ⌝ }
+{
+    (65 <= b) & (b <= 90)
+}
+
+fn name_byte(b: u8) -> bool
+    ensures { λ r. ⌜ r ≡ nameByte b ⌝ }
+{
+    capital_byte(b) | ((48 <= b) & (b <= 57)) | (b == 95)
+}
+
+// A name's bytes: a capital, then capitals, digits and underscores, 16 in all at most.
+pub fn legal_bytes(t: &[u8]) -> bool
+    ensures { λ r. ⌜ r ≡ legalName (now (t .entry)) ⌝ }
+{
+    let n = t.len();
+    if n == 0 {
+        return false;
+    }
+    if 16 < n {
+        return false;
+    }
+    if !capital_byte(t[0]) {
+        return false;
+    }
+    let mut i = 1;
+    while i < n {
+        if !name_byte(t[i]) {
+            return false;
+        }
+        i += 1;
+    }
+    true
+}
+
+pub fn reserved_bytes(t: &[u8]) -> bool
+    ensures { λ r. ⌜ r ≡ reserved (now (t .entry)) ⌝ }
+{
+    let zero = same_bytes(t, b"ZERO");
+    let base = same_bytes(t, b"PI_BASE");
+    let levelling = same_bytes(t, b"PI_LEVELLING");
+    let hexapod = same_bytes(t, b"HEXAPOD");
+    zero | (base | (levelling | hexapod))
+}
+
+pub fn reserved_name(n: Name) -> bool
+    ensures { λ r. ⌜ r ≡ reserved (bytesOf n) ⌝ }
+{
+    let k = clipped(n.len);
+    let x = n.bytes;
+    reserved_bytes(&x[..k])
+}
+
+// A user system may have the name.
+pub fn name_fine(n: Name) -> bool
+    ensures { λ r. ⌜ r ≡ legalName (bytesOf n) && not (reserved (bytesOf n)) ⌝ }
+{
+    let k = clipped(n.len);
+    let x = n.bytes;
+    let t = &x[..k];
+    if !legal_bytes(t) {
+        return false;
+    }
+    !reserved_bytes(t)
+}

@@ -1,0 +1,148 @@
+-- The field engineer's checklist, from the owners' page of demands, as statements about the state after any history: a start, and any list of calls.
+-- The statements only; they are proved in proofs/.
+use Prim.Native.Nat.{_≤_, _<_}
+use mathlib.Core.Path.{_≡_}
+use Rattle.model.specs.Base.{ℕ, zero, suc, List, [], _∷_, _++_, map, Bool, true, false, _||_, some, length, take}
+use Rattle.model.specs.Ascii.{ascii}
+use Rattle.model.specs.Lists.{any, same, oneOf}
+use Rattle.model.specs.Limits.{maxSystems, bufferLimit}
+use Rattle.model.specs.Kinds.{ofGroup}
+use Rattle.model.specs.Memory.{Memory, State, Ref, nameOf, typeOf, predName, isUser, find, named}
+use Rattle.model.specs.Chain.{hop, chain}
+use Rattle.model.specs.Use.{inGroup}
+use Rattle.model.specs.Request.{Change, Query, Reading, reading, unknown, malformed, beyond, asks, change, list, lastError, define, link, copy, remove, enable, setLevel, save, restore, reset}
+use Rattle.model.specs.Effects.{withError}
+use Rattle.model.specs.Refusals.{ladder}
+use Rattle.model.specs.Reply.{listing, everySystem, enabledLine}
+use Rattle.model.specs.Machine.{stepped, restart, writeImage, startImage}
+use Rattle.model.specs.Trace.{Call, Line, afterCalls, afterLines}
+use Rattle.model.specs.Claims.{applies}
+use Rattle.model.specs.Demand.{Start, startState, noneTaken, Replies, Held, HeldPart, alone, pair, frames}
+
+-- ---- (1) KEN? shows one system, or one work and tool pair, for each group
+
+-- a system of the memory, found under its name, with one of these types
+pub record Allowed (m : Memory) (types : List (List ℕ)) (r : Ref) : Type 0 where
+  pub present : find m (nameOf (m .systems) r) ≡ some r
+  pub allowed : oneOf types (typeOf (m .systems) r) ≡ true
+
+-- one system, or work and tool, not both the substitute
+pub data OneOrPair (m : Memory) : List Ref → Type 0 where
+  one : (r : Ref) → Allowed m (ascii "ZERO" ∷ ascii "KSD" ∷ []) r → OneOrPair m (r ∷ [])
+  work-and-tool : (w t : Ref) → Allowed m (ascii "ZERO" ∷ ascii "KSW" ∷ []) w → Allowed m (ascii "ZERO" ∷ ascii "KST" ∷ []) t →
+      (typeOf (m .systems) w ≡ ascii "ZERO" → typeOf (m .systems) t ≡ ascii "ZERO" → ⊥) → OneOrPair m (w ∷ t ∷ [])
+
+pub record OneInEachGroup (st : State) : Type 0 where
+  pub operating : List Ref
+  pub orientational : Ref
+  pub levelling : Ref
+  pub one-or-pair : OneOrPair (st .volatile) operating
+  pub base : Allowed (st .volatile) (ascii "KSB(PI)" ∷ ascii "KSB(USER)" ∷ []) orientational
+  pub level : Allowed (st .volatile) (ascii "KLD(PI)" ∷ ascii "KLD(USER)" ∷ []) levelling
+  pub shown : Replies st (ascii "KEN?") (listing (map (enabledLine (st .volatile .systems)) (operating ++ (orientational ∷ levelling ∷ []))))
+
+-- ---- (2) KLN? followed down never meets a ring
+
+-- the name that KLN? shows for a name's predecessor
+abbrev pub below : Memory → List ℕ → List ℕ
+below m n = predName (m .systems) (named m n)
+
+-- the name that so many lines of KLN? lead to
+unfoldable pub followedDown : Memory → ℕ → List ℕ → List ℕ
+followedDown m zero n = n
+followedDown m (suc i) n = followedDown m i (below m n)
+
+-- the lines followed from a system's name pass the names on its chain, one after the other, and end at its group's fixed system, in no more than 16
+pub record Down (m : Memory) (n : List ℕ) (r : Ref) : Type 0 where
+  pub passes : (i : ℕ) → i ≤ length (chain (m .systems) (r .place)) → followedDown m i n ≡ nameOf (m .systems) (inGroup (r .group) (hop (m .systems) i (r .place)))
+  pub ends : followedDown m (length (chain (m .systems) (r .place))) n ≡ ofGroup (r .group) .name
+  pub few : length (chain (m .systems) (r .place)) ≤ maxSystems
+
+-- so it is from every name, and KLN? shows for each system the name below it
+pub record LeadsDown (st : State) : Type 0 where
+  pub down : (n : List ℕ) (r : Ref) → find (st .volatile) n ≡ some r → Down (st .volatile) n r
+  pub shown : Replies st (ascii "KLN?") (listing (map (λ (r : Ref). nameOf (st .volatile .systems) r ++ (ascii "=" ++ below (st .volatile) (nameOf (st .volatile .systems) r))) (everySystem (st .volatile .systems))))
+
+-- ---- (3) a system under an enabled one is neither redefined, linked, copied over nor removed
+
+-- a change of the system of that name
+unfoldable pub touches : Change → List ℕ → Bool
+touches (define k n t u) a = same n a
+touches (link n b) a = same n a
+touches (copy s n) a = same n a
+touches (remove n) a = same n a
+touches (enable n) a = false
+touches (setLevel n) a = false
+touches save a = false
+touches restore a = false
+touches reset a = false
+
+-- the name of an enabled system, or of one on its chain
+abbrev pub under : Held → List ℕ → Bool
+under h n = any (same n) (h .name ∷ h .chain)
+
+abbrev pub underPart : HeldPart → List ℕ → Bool
+underPart (alone h) n = under h n
+underPart (pair w t) n = under w n || under t n
+
+unfoldable pub underEnabled : Memory → List ℕ → Bool
+underEnabled m n = underPart (frames m .operating) n || (under (frames m .orientational) n || under (frames m .levelling) n)
+
+-- refused with a number up to 11, and with 11 where no smaller one applies; only the last error changes
+pub record HeldFast (st : State) (line b : List ℕ) : Type 0 where
+  pub least : 2 ≤ stepped st line b .number
+  pub greatest : stepped st line b .number ≤ 11
+  pub eleven : ((k : ℕ) → k < 11 → applies k (ladder st line b) ≡ false) → stepped st line b .number ≡ 11
+  pub kept : stepped st line b .state ≡ withError st (stepped st line b .number)
+
+abbrev pub RefusedUnderEnabled : State → Type 0
+RefusedUnderEnabled st =
+    (n : List ℕ) → isUser (st .volatile) n ≡ true → underEnabled (st .volatile) n ≡ true →
+    (line b : List ℕ) (c : Change) → reading line ≡ asks (change c) → touches c n ≡ true → HeldFast st line b
+
+-- ---- (4) save, switch off, switch on, list
+
+unfoldable pub asksToSave : Reading → Bool
+asksToSave unknown = false
+asksToSave malformed = false
+asksToSave beyond = false
+asksToSave (asks (change (define k n t u))) = false
+asksToSave (asks (change (link a b))) = false
+asksToSave (asks (change (copy s d))) = false
+asksToSave (asks (change (remove a))) = false
+asksToSave (asks (change (enable a))) = false
+asksToSave (asks (change (setLevel n))) = false
+asksToSave (asks (change save)) = true
+asksToSave (asks (change restore)) = false
+asksToSave (asks (change reset)) = false
+asksToSave (asks (list q)) = false
+asksToSave (asks lastError) = false
+
+-- the same answer to every listing, whatever bytes ask for it
+abbrev pub ListsAlike : State → State → Type 0
+ListsAlike st st′ = (line b : List ℕ) (q : Query) → reading line ≡ asks (list q) →
+    (stepped st′ line b .number ≡ stepped st line b .number) × (stepped st′ line b .count ≡ stepped st line b .count) × (stepped st′ line b .buffer ≡ stepped st line b .buffer)
+
+-- st saved by an accepted WPA; then lines without another; then a restart, or an image written and a start from the bytes written
+pub record ComesBack (st : State) (later : State) : Type 0 where
+  pub memory : restart later .state .volatile ≡ st .volatile
+  pub lists : ListsAlike st (restart later .state)
+  pub image-memory : (b : List ℕ) → bufferLimit ≤ length b → let o = writeImage later b in startImage (take (o .count) (o .buffer)) .state .volatile ≡ st .volatile
+  pub image-lists : (b : List ℕ) → bufferLimit ≤ length b → let o = writeImage later b in ListsAlike st (startImage (take (o .count) (o .buffer)) .state)
+
+abbrev pub SavedComesBack : State → Type 0
+SavedComesBack st =
+    (line b : List ℕ) → asksToSave (reading line) ≡ true → stepped st line b .number ≡ 0 →
+    (later : List Line) → noneTaken asksToSave (stepped st line b .state) later ≡ true →
+    ComesBack st (afterLines (stepped st line b .state) later)
+
+-- ---- all four, after every history
+
+pub record Checked (st : State) : Type 0 where
+  pub groups : OneInEachGroup st
+  pub chains : LeadsDown st
+  pub in-use : RefusedUnderEnabled st
+  pub saved : SavedComesBack st
+
+abbrev pub Checklist : Type 0
+Checklist = (start : Start) (calls : List Call) → Checked (afterCalls (startState start) calls)

@@ -1,0 +1,139 @@
+-- What a line prints and what it does to the state do not depend on what the lent buffer holds, if it is long enough; and of a line that is too long,
+-- one byte too many tells all.
+use Prim.Native.Nat.{ℕ, zero, suc, _+_, _-_, _≤_, _<_}
+use mathlib.Core.Path.{_≡_, refl, sym, ap, _∙_}
+use mathlib.Core.List.{List, [], _∷_, _++_}
+use mathlib.Core.Bool.{Bool, true, false, not, _||_}
+use mathlib.Core.Logic.{⊎-elim}
+use native.Mathlib.Omega.{arith}
+use lib.Dec.{eqb, ltb}
+use lib.ListN.{length, take, drop, length-append, length-drop}
+use borrow.Author.Tests.{le-ltb, lt-ltb, eqb-true}
+use Rattle.model.proofs.Basics.{either}
+use Rattle.model.specs.Limits.{bufferLimit, lineLimit}
+use Rattle.model.specs.Memory.{State}
+use Rattle.model.specs.WellFormed.{wellFormed}
+use Rattle.model.specs.Request.{Reading, reading, unknown, malformed, beyond, asks}
+use Rattle.model.specs.Refusals.{refusal, ladder, short, first, unreadable, readingLadder}
+use Rattle.model.specs.Machine.{Outcome, stepped, judged, carriedOut, answered, refused}
+use Rattle.model.specs.Effects.{next, withError}
+use Rattle.model.specs.Reply.{reply, decimal}
+use Rattle.model.specs.Ascii.{ascii}
+use lib.Seq.{take-append-seam, length-take-le, take-all}
+use native.Mathlib.Decide.{decLt}
+use Rattle.model.specs.Trace.{printed}
+
+-- what is seen of an outcome: the state, and what is printed
+pub record Seen : Type 0 where
+  pub state : State
+  pub text : List ℕ
+
+abbrev pub seen : Outcome → Seen
+seen o = record { state = o .state; text = printed o }
+
+long : (b : List ℕ) → bufferLimit ≤ length b → short b ≡ false
+unfolding short
+long b h = le-ltb (length b) bufferLimit h
+
+-- the number is that of the line alone
+pub refusal-alone : (st : State) (l b : List ℕ) → bufferLimit ≤ length b →
+    refusal st l b ≡ first ((3, unreadable l) ∷ readingLadder st (reading l))
+unfolding refusal ladder first
+refusal-alone st l b h = rw (long b h)
+
+-- an answer prints its text
+pub printed-answered : (st : State) (t b : List ℕ) → printed (answered st t b) ≡ t
+unfolding printed
+printed-answered st t b = take-append-seam t (drop (length t) b)
+
+carried : (st : State) (r : Reading) (b c : List ℕ) → seen (carriedOut st r b) ≡ seen (carriedOut st r c)
+unfolding carriedOut
+carried st unknown b c = rw (printed-answered st [] b, printed-answered st [] c)
+carried st malformed b c = rw (printed-answered st [] b, printed-answered st [] c)
+carried st beyond b c = rw (printed-answered st [] b, printed-answered st [] c)
+carried st (asks r) b c =
+    let m = st .volatile in
+    ap (λ (t : List ℕ). record { state = next st m r; text = t }) (printed-answered (next st m r) (reply st m r) b ∙ sym (printed-answered (next st m r) (reply st m r) c))
+
+judged-taken : (st : State) (n : ℕ) (l b : List ℕ) → eqb n 0 ≡ true → judged st n l b ≡ carriedOut st (reading l) b
+unfolding judged
+judged-taken st n l b h = rw (h, judged)
+
+judged-refused : (st : State) (n : ℕ) (l b : List ℕ) → eqb n 0 ≡ false → judged st n l b ≡ refused (withError st n) n b
+unfolding judged
+judged-refused st n l b h = rw (h, judged)
+
+pub printed-refused : (st : State) (n : ℕ) (b : List ℕ) → eqb n 0 ≡ false → printed (refused st n b) ≡ ascii "E " ++ (decimal n ++ ascii "\n")
+unfolding printed
+printed-refused st n b h = rw (h, printed)
+
+-- two lines of one number and, if it is 0, of one reading are seen alike, whatever they are lent
+judged-alike : (st : State) (n : ℕ) (l k b c : List ℕ) → (n ≡ 0 → reading l ≡ reading k) → seen (judged st n l b) ≡ seen (judged st n k c)
+judged-alike st n l k b c e =
+    ⊎-elim
+    (λ h. rw (judged-taken st n l b h, judged-taken st n k c h, e (eqb-true n 0 h)) (carried st (reading k) b c))
+    (λ h. rw (judged-refused st n l b h, judged-refused st n k c h, printed-refused (withError st n) n b h, printed-refused (withError st n) n c h) refl)
+    (either (eqb n 0))
+
+stepped-fine : (st : State) (l b : List ℕ) → wellFormed st ≡ true → stepped st l b ≡ judged st (refusal st l b) l b
+unfolding stepped
+stepped-fine st l b h = rw (h, stepped)
+
+stepped-ill : (st : State) (l b : List ℕ) → wellFormed st ≡ false → stepped st l b ≡ refused st 1 b
+unfolding stepped
+stepped-ill st l b h = rw (h, stepped)
+
+-- ---- the two laws
+
+-- two lines of one number and one reading, with long buffers
+alike : (st : State) (l k b c : List ℕ) → refusal st l b ≡ refusal st k c → (refusal st k c ≡ 0 → reading l ≡ reading k) →
+    seen (stepped st l b) ≡ seen (stepped st k c)
+alike st l k b c e r =
+    ⊎-elim
+    (λ h. rw (stepped-fine st l b h, stepped-fine st k c h, e) (judged-alike st (refusal st k c) l k b c r))
+    (λ h. rw (stepped-ill st l b h, stepped-ill st k c h, printed-refused st 1 b refl, printed-refused st 1 c refl) refl)
+    (either (wellFormed st))
+
+-- what the lent buffer holds does not show
+pub any-buffer : (st : State) (l b c : List ℕ) → bufferLimit ≤ length b → bufferLimit ≤ length c → seen (stepped st l b) ≡ seen (stepped st l c)
+any-buffer st l b c h k = alike st l l b c (refusal-alone st l b h ∙ sym (refusal-alone st l c k)) (λ z. refl)
+
+too-long : (st : State) (l b : List ℕ) → bufferLimit ≤ length b → lineLimit < length l → refusal st l b ≡ 3
+unfolding first unreadable
+too-long st l b h k = refusal-alone st l b h ∙ rw (lt-ltb lineLimit (length l) k)
+
+-- of a line that is too long, the first bytes up to one too many tell all
+pub clipped : (st : State) (l b : List ℕ) → bufferLimit ≤ length b → seen (stepped st (take (suc lineLimit) l) b) ≡ seen (stepped st l b)
+clipped st l b h =
+    elim (decLt lineLimit (length l)) [
+      | yes k ↦ alike st (take (suc lineLimit) l) l b b
+          (too-long st (take (suc lineLimit) l) b h (rw (length-take-le (suc lineLimit) l k) (omega arith)) ∙ sym (too-long st l b h k))
+          (λ z. absurd (omega (arith, z, too-long st l b h k)))
+      | no k ↦ ap (λ (t : List ℕ). seen (stepped st t b)) (take-all (suc lineLimit) l (omega arith))
+    ]
+
+-- ---- a long buffer stays long
+
+written-long : (st : State) (t b : List ℕ) → length b ≤ length (answered st t b .buffer)
+written-long st t b = rw (length-append t (drop (length t) b), length-drop (length t) b) (omega arith)
+
+carried-long : (st : State) (r : Reading) (b : List ℕ) → length b ≤ length (carriedOut st r b .buffer)
+unfolding carriedOut
+carried-long st unknown b = written-long st [] b
+carried-long st malformed b = written-long st [] b
+carried-long st beyond b = written-long st [] b
+carried-long st (asks r) b = written-long (next st (st .volatile) r) (reply st (st .volatile) r) b
+
+judged-long : (st : State) (n : ℕ) (l b : List ℕ) → length b ≤ length (judged st n l b .buffer)
+judged-long st n l b =
+    ⊎-elim
+    (λ h. rw (judged-taken st n l b h) (carried-long st (reading l) b))
+    (λ h. rw (judged-refused st n l b h) (omega arith))
+    (either (eqb n 0))
+
+pub stays-long : (st : State) (l b : List ℕ) → length b ≤ length (stepped st l b .buffer)
+stays-long st l b =
+    ⊎-elim
+    (λ h. rw (stepped-fine st l b h) (judged-long st (refusal st l b) l b))
+    (λ h. rw (stepped-ill st l b h) (omega arith))
+    (either (wellFormed st))

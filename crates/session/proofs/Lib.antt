@@ -1,0 +1,4 @@
+pub mod Buffer
+pub mod Whole
+pub mod Cutting
+pub mod Lines
