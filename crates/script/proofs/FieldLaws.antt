@@ -66,7 +66,7 @@ bytes-short text w = simp (length-take, length-drop) (omega arith)
 -- nothing is ordered, and nothing decoded
 pub nothing : (b : List ℕ) → Understood unclear [] b Malformed b
 unfolding pairsRead over
-nothing b = record { order = refl; bytes = refl }
+nothing b = record { order = refl; bytes = refl; bounded = tt }
 
 pub too-long : (text b : List ℕ) → longestLine < length text → Understood (order text) (hexOf text) b Malformed b
 unfolding order hexOf

@@ -15,7 +15,7 @@ use borrow.Author.Tests.{eq-eqb, ne-eqb, lt-ltb, le-ltb}
 use Rattle.model.proofs.Basics.{and-join}
 use Rattle.text.proofs.Lists.{and-false}
 use Rattle.print.specs.Over.{over}
-use Rattle.print.proofs.Laws.{over-front}
+use Rattle.print.proofs.Laws.{length-over, over-front}
 use Rattle.script.specs.declared.hex.Decoded.{Decoded}
 use Rattle.script.specs.Directive.{bytesTold}
 use Rattle.script.specs.Hex.{digitValue, digit?, pairValue, hex?, pairsRead, unhexed, decoded, Decodes, glyph, hexed}
@@ -130,6 +130,9 @@ unfolding unhexed
 told-bytes {h} {before} g d =
     rw (d .answer, d .bytes)
     (ap (λ (t : List ℕ). cond (hex? h) (some t) none) (read-back (pairsRead h) before (omega (arith, pairs-half h))))
+
+pub count-inside : {h before after : List ℕ} {r : Decoded} → length h ≤ 2 * length before → Decodes h before r after → r .count ≤ length after
+count-inside {h} {before} g d = rw (d .answer, d .bytes, length-over (pairsRead h) before 0) (omega (arith, pairs-half h))
 
 -- ---- a loop that writes
 

@@ -2,3 +2,4 @@ pub mod HexLaws
 pub mod FieldLaws
 pub mod LengthLaws
 pub mod OrderLaws
+pub mod AnswerLaws

@@ -1,5 +1,5 @@
 -- What a line of a script orders.
-use Prim.Native.Nat.{ℕ, zero, suc, _-_}
+use Prim.Native.Nat.{ℕ, zero, suc, _-_, _≤_}
 use mathlib.Core.Path.{_≡_}
 use mathlib.Core.List.{List, [], _∷_}
 use mathlib.Core.Bool.{cond, _&&_}
@@ -131,6 +131,7 @@ bytesTold d b = cond (d .ok) (some (take (d .count) b)) none
 pub record Spelled (h before : List ℕ) (r : Decoded) (after : List ℕ) : Type 0 where
   pub told : bytesTold r after ≡ bytesOf h
   pub bytes : after ≡ over before 0 (pairsRead h)
+  pub inside : r .count ≤ length after
 
 -- the field that is decoded
 unfoldable pub hexField : List (List ℕ) → List ℕ
@@ -140,10 +141,20 @@ hexField (w ∷ v ∷ []) = cond (same w (ascii "I")) v []
 hexField (w ∷ h ∷ n ∷ []) = cond (same w (ascii "L")) h []
 hexField (w ∷ h ∷ n ∷ z ∷ zs) = []
 
+-- what a directive counts lies in the buffer, and no longer one is to be lent
+abbrev pub Bounded : Directive → List ℕ → Type 0
+Bounded (Line k n) b = (k ≤ length b) × (n ≤ longestLent)
+Bounded Restart b = Unit {0}
+Bounded (Write n) b = n ≤ longestLent
+Bounded (Image k) b = k ≤ length b
+Bounded Factory b = Unit {0}
+Bounded Malformed b = Unit {0}
+
 -- an order was understood, and the field h decoded into a lent buffer
 pub record Understood (o : Order) (h before : List ℕ) (r : Directive) (after : List ℕ) : Type 0 where
   pub order : orderOf r after ≡ o
   pub bytes : after ≡ over before 0 (pairsRead h)
+  pub bounded : Bounded r after
 
 -- the field that is decoded of a whole line
 unfoldable pub hexOf : List ℕ → List ℕ

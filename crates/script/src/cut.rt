@@ -7,6 +7,7 @@ ghost use Rattle.print.specs.Over.{Wrote};
 pub fn keep(line: &mut [u8], count: usize, part: &[u8]) -> usize
     requires { ⌜ count ≤ length (now line) ⌝ }
     ensures { λ r. ⌜ Wrote (take (length (now (line .entry)) - count) (now (part .entry))) (now (line .entry)) count (now (line .exit)) r ⌝ }
+    ensures { λ r. ⌜ r ≤ length (now (line .entry)) ⌝ }
 {
     let room = line.len() - count;
     if part.len() <= room {

@@ -1,4 +1,5 @@
-// A script of directives drives every public call of the machine.
+pub mod answer;
 pub mod cut;
 pub mod hex;
 pub mod parse;
+

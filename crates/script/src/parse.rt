@@ -10,7 +10,7 @@ ghost use Prim.Native.Nat.{ℕ, _*_, _≤_};
 ghost use lib.ListN.{length};
 ghost use Rattle.model.specs.Lists.{same};
 ghost use Rattle.text.specs.Cursor.{Within};
-ghost use Rattle.script.specs.Directive.{longestLine, bytesAt, lengthTold, lengthOf, Spelled, orderOf, oneField, twoFields, threeFields, hexField, Understood, order, hexOf};
+ghost use Rattle.script.specs.Directive.{longestLine, bytesAt, lengthTold, lengthOf, Spelled, oneField, twoFields, threeFields, hexField, Understood, order, hexOf};
 
 // The length of a buffer to be lent.
 pub enum Length {
@@ -68,7 +68,7 @@ pub fn read_bytes(field: &[u8], bytes: &mut [u8]) -> Decoded
 }
 
 fn one_field(w: &[u8]) -> Directive
-    ensures { λ r. ⌜ ((b : List ℕ) → orderOf r b ≡ oneField (now (w .entry))) ⌝ }
+    ensures { λ r. ⌜ ((b : List ℕ) → Understood (oneField (now (w .entry))) [] b r b) ⌝ }
 {
     if is_letter(w, b'R') {
         return Directive::Restart;

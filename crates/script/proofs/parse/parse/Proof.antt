@@ -5,10 +5,8 @@ use mathlib.Core.List.{List, [], _∷_}
 use native.Mathlib.Omega.{arith}
 use borrow.Author.Needs.{needs}
 use lib.ListN.{length, drop}
-use Rattle.print.specs.Over.{over}
 use Rattle.text.specs.Cursor.{Within}
 use Rattle.text.proofs.WordLaws.{word-within}
-use Rattle.script.specs.Hex.{pairsRead}
 use Rattle.script.specs.Directive.{fields, fieldsUpTo, understood, hexField}
 use Rattle.script.proofs.FieldLaws.{no-field, a-field, bytes-short, nothing, too-long, by-fields}
 use Rattle.script.proofs.parse.parse.Statement.{statement}
@@ -48,14 +46,14 @@ one-field-requires : tie.Need-one-field-requires
 one-field-requires c κs = search needs
 
 returns-3 : tie.Need-returns-3
-unfolding understood hexField pairsRead over
+unfolding understood hexField
 returns-3 c =
     let n = c .before .before .before in
     let w = n .before .before .before .before in
     let text = w .before .before .before .before .args .text .now in
     by-fields text (w .before .if1 .left)
     (fields1 (n .before) (no-field text (w .next-word .result .end) (n .next-word2 .result) (n .next-word2 .ensures) 2 (c .before .if3 .taken)))
-    record { order = c .one-field .ensures _; bytes = refl }
+    (c .one-field .ensures _)
 
 -- ---- the second
 

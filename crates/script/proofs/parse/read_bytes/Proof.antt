@@ -1,11 +1,12 @@
 use mathlib.Core.Path.{_≡_, sym, _∙_}
 use mathlib.Core.List.{[], _∷_}
+use native.Mathlib.Omega.{arith}
 use borrow.Author.Needs.{needs}
 use Rattle.model.proofs.Basics.{same→≡}
 use Rattle.print.specs.Over.{over}
 use Rattle.script.specs.Hex.{pairsRead}
 use Rattle.script.specs.Directive.{bytesOf}
-use Rattle.script.proofs.HexLaws.{told-bytes}
+use Rattle.script.proofs.HexLaws.{told-bytes, count-inside}
 use Rattle.script.proofs.parse.read_bytes.Statement.{statement}
 use Rattle.script.proofs.parse.read_bytes.Tie as tie
 use Rattle.script.proofs.parse.read_bytes.Reads as reads
@@ -20,7 +21,7 @@ returns : tie.Need-returns
 unfolding bytesOf pairsRead over
 returns c =
     let t = sym (c .before .is-letter .ensures) ∙ c .if1 .taken in
-    record { told = rw t; bytes = rw (same→≡ _ (45 ∷ []) t) }
+    record { told = rw t; bytes = rw (same→≡ _ (45 ∷ []) t); inside = omega arith }
 
 decode-requires : tie.Need-decode-requires
 decode-requires c κs = search needs
@@ -33,7 +34,8 @@ unfolding bytesOf
 returns-2 c =
     let t = sym (c .before .before .before .before .before .is-letter .ensures) ∙ c .before .before .before .before .if1 .left in
     let d = c .before .before .decode .ensures in
-    record { told = rw t (told-bytes (c .before .before .before .before .before .before .before .before .pre) d); bytes = d .bytes }
+    let pre = c .before .before .before .before .before .before .before .before .pre in
+    record { told = rw t (told-bytes pre d); bytes = d .bytes; inside = count-inside pre d }
 
 pub read-bytes-spec : {M : Type 1} → statement M
 read-bytes-spec =
