@@ -1,20 +1,18 @@
 -- Laws of the texts of answers, and of their lengths.
 use Prim.Native.Nat.{ℕ, zero, suc, _+_, _*_, _-_, _/_, _%_, _^_, _≤_, _<_}
 use mathlib.Core.Path.{_≡_, refl, sym, ap, _∙_}
-use mathlib.Core.List.{List, [], _∷_, _++_, append-nil}
-use mathlib.Core.Bool.{true, false}
+use mathlib.Core.List.{List, [], _∷_, append-nil}
 use native.Mathlib.Nat.{pow-le-pow-right, zero-lt-suc, le-trans}
 use native.Mathlib.Decide.{decLt}
 use native.Mathlib.Omega.{arith}
 use lib.Dec.{ltb}
 use lib.ListN.{length, length-append}
 use borrow.Author.Tests.{lt-ltb, le-ltb}
-use Rattle.model.specs.Lists.{least, joined}
+use Rattle.model.specs.Lists.{joined}
 use Rattle.model.specs.Reply.{decimal}
 use Rattle.model.proofs.Basics.{least-is, least-le}
 use Rattle.io.specs.Digits.{digits, glyph, Fewest}
 use Rattle.print.proofs.Laws.{decimal-short}
-use Rattle.script.specs.Hex.{hexed}
 use Rattle.script.specs.Answer.{said, places, numeral, complaint}
 use Rattle.script.proofs.HexLaws.{length-hexed}
 

@@ -1,8 +1,8 @@
 -- The cursor's words are the fields of a line.
 use Prim.Native.Nat.{ℕ, suc, _+_, _-_, _<_, _≤_}
-use mathlib.Core.Path.{_≡_, refl, sym, ap, _∙_}
+use mathlib.Core.Path.{_≡_, refl, ap, _∙_}
 use mathlib.Core.List.{List, [], _∷_}
-use mathlib.Core.Bool.{Bool, true, false, cond, _&&_}
+use mathlib.Core.Bool.{Bool, true, false, _&&_}
 use native.Mathlib.Omega.{arith}
 use lib.Dec.{eqb}
 use lib.ListN.{length, take, drop, getD, length-take, length-drop}
@@ -11,12 +11,12 @@ use borrow.Author.Tests.{le-leb, lt-leb}
 use Rattle.model.specs.Lists.{none?, same}
 use Rattle.print.specs.Over.{over}
 use Rattle.text.specs.declared.words.Word.{Word}
-use Rattle.text.specs.Cursor.{blanks, run, nextWord, Within}
+use Rattle.text.specs.Cursor.{blanks, run, nextWord}
 use Rattle.text.proofs.WordLaws.{word-within}
 use Rattle.script.specs.Hex.{pairsRead}
 use Rattle.script.specs.declared.parse.Directive.{Directive}
 use Rattle.script.specs.declared.parse.Directive.the-variants.{Malformed}
-use Rattle.script.specs.Directive.{longestLine, field, behind, fieldsUpTo, fields, bytesAt, Order, unclear, understood, order, hexField, hexOf, orderOf, Understood}
+use Rattle.script.specs.Directive.{longestLine, field, behind, fieldsUpTo, fields, bytesAt, unclear, understood, order, hexField, hexOf, Understood}
 
 some-left : (l : List ℕ) → 0 < length l → none? l ≡ false
 unfolding none?

@@ -1,14 +1,13 @@
 -- Laws of pairs of digits, read and written.
-use Prim.Native.Nat.{ℕ, zero, suc, _+_, _*_, _-_, _/_, _%_, _<_, _≤_}
+use Prim.Native.Nat.{ℕ, suc, _+_, _*_, _/_, _%_, _<_, _≤_}
 use mathlib.Core.Path.{_≡_, refl, sym, ap, _∙_}
-use mathlib.Core.List.{List, [], _∷_, _++_}
+use mathlib.Core.List.{List, [], _∷_}
 use mathlib.Core.Bool.{Bool, true, false, cond, _&&_}
-use mathlib.Core.Option.{Option, none, some}
-use native.Mathlib.Nat.{add-zero}
+use mathlib.Core.Option.{none, some}
 use native.Mathlib.Numerals.{add-one}
 use native.Mathlib.Omega.{arith}
 use native.Mathlib.Decide.{ℕ-discrete}
-use lib.Dec.{eqb, ltb}
+use lib.Dec.{eqb}
 use lib.ListN.{length, take, drop, getD, set, drop-of-length-le}
 use lib.Seq.{drop-cons, take-append-seam}
 use borrow.Author.Tests.{eq-eqb, ne-eqb, lt-ltb, le-ltb}
@@ -18,7 +17,7 @@ use Rattle.print.specs.Over.{over}
 use Rattle.print.proofs.Laws.{length-over, over-front}
 use Rattle.script.specs.declared.hex.Decoded.{Decoded}
 use Rattle.script.specs.Directive.{bytesTold}
-use Rattle.script.specs.Hex.{digitValue, digit?, pairValue, hex?, pairsRead, unhexed, decoded, Decodes, glyph, hexed}
+use Rattle.script.specs.Hex.{digitValue, digit?, pairValue, hex?, pairsRead, unhexed, Decodes, glyph, hexed}
 
 -- ---- two bytes at a place
 

@@ -2,8 +2,8 @@
 use Prim.Native.Nat.{ℕ, _≤_}
 use mathlib.Core.Path.{_≡_, refl, sym, ap, _∙_}
 use mathlib.Core.List.{List, [], _∷_}
-use mathlib.Core.Bool.{true, false, cond}
-use mathlib.Core.Option.{Option, none, some}
+use mathlib.Core.Bool.{true, false}
+use mathlib.Core.Option.{none, some}
 use lib.ListN.{length, take}
 use Rattle.model.specs.Ascii.{ascii}
 use Rattle.model.specs.Lists.{same}
@@ -15,7 +15,7 @@ use Rattle.script.specs.declared.parse.Length.the-variants.{Bytes, Wrong
 use Rattle.script.specs.declared.parse.Directive.{Directive}
 use Rattle.script.specs.declared.parse.Directive.the-variants.{Line, Write, Image, Malformed}
 use Rattle.script.specs.Hex.{pairsRead}
-use Rattle.script.specs.Directive.{lengthTold, lengthOf, bytesTold, bytesOf, Spelled, writeOrder, startOrder, lineOrder, twoFields, threeFields, hexField, Bounded, Understood, orderOf}
+use Rattle.script.specs.Directive.{lengthTold, lengthOf, bytesOf, Spelled, writeOrder, startOrder, lineOrder, twoFields, threeFields, hexField, Bounded, Understood, orderOf}
 use Rattle.script.proofs.LengthLaws.{length-bound}
 
 -- bytes that were read, or not

@@ -1,4 +1,4 @@
-use mathlib.Core.Path.{_≡_, sym, _∙_}
+use mathlib.Core.Path.{sym, _∙_}
 use mathlib.Core.List.{[], _∷_}
 use native.Mathlib.Omega.{arith}
 use borrow.Author.Needs.{needs}
@@ -9,10 +9,6 @@ use Rattle.script.specs.Directive.{bytesOf}
 use Rattle.script.proofs.HexLaws.{told-bytes, count-inside}
 use Rattle.script.proofs.parse.read_bytes.Statement.{statement}
 use Rattle.script.proofs.parse.read_bytes.Tie as tie
-use Rattle.script.proofs.parse.read_bytes.Reads as reads
-use Rattle.script.proofs.parse.read_bytes.Lts as lts
-use Rattle.script.proofs.hex.decode.Reads as decode-reads
-use Rattle.script.proofs.parse.is_letter.Reads as is-letter-reads
 
 is-letter-requires : tie.Need-is-letter-requires
 is-letter-requires c κs = search needs
