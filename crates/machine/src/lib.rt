@@ -1,18 +1,16 @@
 // The machine's public calls. None asks anything of its caller: a state that is not well formed comes back as it is, with 1.
+use engine::answer::Stepped;
 use model::State;
 ghost use mathlib.Core.Path.{_≡_};
-ghost use Rattle.model.specs.Machine.{startFactory};
-ghost use Rattle.model.specs.Stored.{viewOf, holds, restartAnswer};
+ghost use Rattle.model.specs.Machine.{startFactory, startImage};
+ghost use Rattle.model.specs.Stored.{viewOf, holds, ofBegun, lineAnswer, imageAnswer, restartAnswer};
+ghost use Rattle.engine.specs.Fine.{answeredOf};
 ghost use Rattle.machine.specs.Calls.{begunOf};
 
-// What a call with a lent buffer gives: the next state, the number (0: accepted), and how many bytes it wrote.
-pub struct Stepped {
-    pub state: State,
-    pub number: u8,
-    pub length: usize,
-}
+// The least lent buffer.
+const ROOM: usize = 4096;
 
-// What a call without one gives.
+// What a call without a lent buffer gives: the next state, and the number (0: accepted).
 pub struct Begun {
     pub state: State,
     pub number: u8,
@@ -48,4 +46,63 @@ pub fn restart(s: State) -> Begun
         error: 0,
     };
     Begun { state, number: 0 }
+}
+
+// A command line, with a lent buffer for its reply.
+pub fn line(s: State, line: &[u8], reply: &mut [u8]) -> Stepped
+    ensures { λ r. ⌜ answeredOf r (now (reply .exit)) ≡ lineAnswer (viewOf s) (now (line .entry)) (now (reply .entry)) ⌝ }
+{
+    if !memory::fine::state_fine(s) {
+        return Stepped {
+            state: s,
+            number: 1,
+            length: 0,
+        };
+    }
+    engine::line::obey(s, line, reply)
+}
+
+// The image of the permanent memory, into a lent buffer.
+pub fn write_image(s: State, out: &mut [u8]) -> Stepped
+    ensures { λ r. ⌜ answeredOf r (now (out .exit)) ≡ imageAnswer (viewOf s) (now (out .entry)) ⌝ }
+{
+    if !memory::fine::state_fine(s) {
+        return Stepped {
+            state: s,
+            number: 1,
+            length: 0,
+        };
+    }
+    if out.len() < ROOM {
+        return Stepped {
+            state: s,
+            number: 2,
+            length: 0,
+        };
+    }
+    let m = s.permanent;
+    let length = image::write(m, out);
+    Stepped {
+        state: s,
+        number: 0,
+        length,
+    }
+}
+
+// A start from bytes offered as an image: the state that they give, or with 14 the factory's.
+pub fn start_image(bytes: &[u8]) -> Begun
+    ensures { λ r. ⌜ begunOf r ≡ ofBegun (startImage (now (bytes .entry))) ⌝ }
+{
+    let found = image::read(bytes);
+    let m = found.memory;
+    let state = State {
+        volatile: m,
+        permanent: m,
+        level: 0,
+        error: 0,
+    };
+    if found.ok {
+        return Begun { state, number: 0 };
+    }
+    Begun { state, number: 14 }
 }

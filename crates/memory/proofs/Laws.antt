@@ -1,14 +1,14 @@
 -- Laws of lists that are held in arrays: the bytes of a stored name, the systems of a stored memory.
 use Prim.Native.Nat.{ℕ, zero, suc, _+_, min, _<_, _≤_}
 use mathlib.Core.Path.{_≡_, refl, _∙_}
-use mathlib.Core.List.{List, [], _∷_}
+use mathlib.Core.List.{List, [], _∷_, map}
 use native.Mathlib.Omega.{arith}
 use native.Mathlib.Numerals.{add-one}
-use lib.ListN.{length, take, getD, set, length-take}
+use lib.ListN.{length, take, getD, set, length-take, length-map, List·getD-map}
 use lib.Seq.{take-suc, take-suc-set}
 use Rattle.model.specs.declared.Name.{Name}
 use Rattle.model.specs.declared.Memory.{Memory as StoredMemory}
-use Rattle.model.specs.Memory.{blank}
+use Rattle.model.specs.Memory.{System, blank}
 use Rattle.model.specs.Stored.{bytesOf, systemOf, systemsOf}
 use Rattle.chains.proofs.Copies.{unset, take-min}
 use Rattle.chains.proofs.Laid.{stored-length, stored-at}
@@ -18,6 +18,12 @@ pub getD-any : {A : Type 0} (l : List A) (i : ℕ) (d e : A) → i < length l �
 getD-any [] i d e h = absurd (omega arith)
 getD-any (x ∷ l) zero d e h = refl
 getD-any (x ∷ l) (suc i) d e h = getD-any l i d e (omega arith)
+
+-- a number of a system, in a list of such numbers
+pub mapped-at : (f : System → ℕ) (l : List System) (i : ℕ) → i < length l → getD (map f l) i 0 ≡ f (getD l i blank)
+mapped-at f l i h =
+    let lt : i < length (map f l) = rw (length-map l f) h in
+    getD-any (map f l) i 0 (f blank) lt ∙ List·getD-map f l i blank
 
 -- an array that is filled in order with the elements of a list: one turn
 pub filled-turn : {A : Type 0} (xs l : List A) (i : ℕ) (v d : A) → i < length xs → i < length l → take i xs ≡ take i l → v ≡ getD l i d → take (i + 1) (set xs i v) ≡ take (i + 1) l

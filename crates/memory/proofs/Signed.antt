@@ -1,20 +1,12 @@
 -- Tests of signed numbers, as the definitions make them: by magnitude.
 use Prim.Native.Nat.{ℕ, zero, suc}
 use mathlib.Core.Path.{_≡_, refl, sym, ap, _∙_}
-use mathlib.Core.Bool.{_&&_}
 use native.Mathlib.Omega.{arith}
 use borrow.Author.Tests.{ne-eqb}
-use lib.Dec.{eqb, leb, leb·suc-suc, eqb·suc-zero}
+use lib.Dec.{eqb, eqb·suc-zero}
 use lib.IntN.{ℤ, pos, negsuc, natAbs}
-use lib.Signed.{leZ}
 use mir.Syntax.{w64}
 use mir.Val.{toZ, ofZ}
-use Rattle.memory.proofs.Tests.{and-true}
-
--- within a limit, either way
-pub within : (k : ℕ) (z : ℤ) → leZ (negsuc k) z && leZ z (pos (suc k)) ≡ leb (natAbs z) (suc k)
-within k (pos n) = refl
-within k (negsuc n) = and-true (leb n k) ∙ sym (leb·suc-suc n k)
 
 nonzero : (z : ℤ) (n : ℕ) → natAbs z ≡ suc n → z ≡ pos 0 → ⊥
 nonzero z n e h = let q : natAbs z ≡ 0 = ap natAbs h in absurd (omega arith)

@@ -1,13 +1,13 @@
 // A system by its name or its place. Every stored value has an answer: a count beyond the array means the whole array.
 use crate::factory::blank_system;
 use crate::names::clipped;
-use crate::names::same_bytes;
 use crate::names::same_name;
 use chains::links::held;
 use model::Group;
 use model::Memory;
 use model::Name;
 use model::System;
+use text::names::same_bytes;
 ghost use mathlib.Core.Path.{_≡_};
 ghost use mathlib.Core.Bool.{true};
 ghost use mathlib.Core.List.{List};

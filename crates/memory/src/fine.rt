@@ -1,9 +1,9 @@
 // The test for well-formedness: shape is judged on the stored value, all else on what it stands for.
+use crate::distinct::names_differ;
 use crate::kinds::is_kind;
 use crate::kinds::kind_codes;
 use crate::kinds::turns_only;
 use crate::names::name_fine;
-use crate::names::same_name;
 use chains::links::held;
 use chains::links::links_of;
 use chains::links::no_ring;
@@ -15,33 +15,22 @@ use model::State;
 use model::System;
 use model::Turns;
 use model::Vec3;
+use text::values::offset_fine;
 ghost use mathlib.Core.Path.{_≡_};
 ghost use mathlib.Core.Bool.{_&&_, _||_};
 ghost use lib.Dec.{eqb, leb};
+ghost use mathlib.Core.List.{List};
 ghost use Rattle.model.specs.Lists.{between};
 ghost use Rattle.model.specs.Limits.{largestNumber};
-ghost use mathlib.Core.List.{List};
 ghost use Rattle.model.specs.Memory.{System as SystemOf};
 ghost use Rattle.model.specs.Chain.{noRing};
-ghost use Rattle.model.specs.Words.{offset?};
-ghost use Rattle.model.specs.WellFormed.{offsetsFine, noOffset, turnsFine, namesDiffer, operatingFine, enabledFine, memoryFine, wellFormed};
+ghost use Rattle.model.specs.WellFormed.{offsetsFine, noOffset, turnsFine, operatingFine, enabledFine, memoryFine, wellFormed};
 ghost use Rattle.model.specs.Stored.{systemOf, systemsOf, memoryOf, stateOf, memoryShaped, shaped};
 ghost use Rattle.memory.specs.Codes.{codesOf};
 ghost use Rattle.memory.specs.Fine.{aloneFine, storedFine, storedAllFine};
 
-// The limit of an own offset, either way.
-const LEAST: i64 = -1000000000;
-
-const MOST: i64 = 1000000000;
-
 // The largest number with which a line can be refused.
 const LARGEST: u8 = 13;
-
-fn offset_fine(z: i64) -> bool
-    ensures { λ r. ⌜ r ≡ offset? z ⌝ }
-{
-    (LEAST <= z) & (z <= MOST)
-}
 
 fn offsets_fine(t: Vec3) -> bool
     ensures { λ r. ⌜ r ≡ offsetsFine t ⌝ }
@@ -137,31 +126,6 @@ fn typed_fine(m: Memory) -> bool
     }
     let e = m.enabled;
     enabled_fine(codes, e)
-}
-
-// No two systems have one name: every pair once, the later of the two running fastest.
-fn names_differ(m: Memory) -> bool
-    ensures { λ r. ⌜ r ≡ namesDiffer (systemsOf m) ⌝ }
-{
-    let count = held(m.count);
-    let mut i = 0;
-    let mut j = 1;
-    while i < count {
-        if j < count {
-            let s = m.systems[i];
-            let a = s.name;
-            let t = m.systems[j];
-            let b = t.name;
-            if same_name(a, b) {
-                return false;
-            }
-            j += 1;
-        } else {
-            i += 1;
-            j = i + 1;
-        }
-    }
-    true
 }
 
 // No chain is a ring.

@@ -1,4 +1,5 @@
 // The memories of the machine: finding a system by its name, the test for well-formedness, and the edits.
+pub mod distinct;
 pub mod edit;
 pub mod enable;
 pub mod factory;

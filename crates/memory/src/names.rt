@@ -1,5 +1,6 @@
 // Names and texts: the same bytes, and what makes a name legal. A length beyond its array means the whole array.
 use model::Name;
+use text::names::same_bytes;
 ghost use mathlib.Core.Path.{_≡_};
 ghost use Prim.Native.Nat.{min};
 ghost use mathlib.Core.Bool.{not, _&&_};
@@ -15,23 +16,6 @@ pub fn clipped(n: u8) -> usize
         return 16;
     }
     n as usize
-}
-
-pub fn same_bytes(a: &[u8], b: &[u8]) -> bool
-    ensures { λ r. ⌜ r ≡ same (now (a .entry)) (now (b .entry)) ⌝ }
-{
-    let n = a.len();
-    if n != b.len() {
-        return false;
-    }
-    let mut i = 0;
-    while i < n {
-        if a[i] != b[i] {
-            return false;
-        }
-        i += 1;
-    }
-    true
 }
 
 pub fn same_name(a: Name, b: Name) -> bool

@@ -51,12 +51,6 @@ module _ (l l′ : List System) (f : ℕ → ℕ) where
     unfolding resultant
     carried-resultant = rw carried-steps (carried-pose (steps l q) q alike)
 
-    pub carried-chain : chain l′ (f q) ≡ map f (chain l q)
-    unfolding chain
-    carried-chain =
-        rw (carried-steps, map-table f (steps l q) (λ i. hop l (suc i) q))
-        (table-cong (steps l q) (λ i. hop l′ (suc i) (f q)) (λ i. f (hop l (suc i) q)) (λ i h. carried-hop q alike (suc i)))
-
     pub carried-names : (g : Group) → map (λ p. nameOf l′ (inGroup g p)) (chain l′ (f q)) ≡ map (λ p. nameOf l (inGroup g p)) (chain l q)
     unfolding chain
     carried-names g =

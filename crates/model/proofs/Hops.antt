@@ -8,9 +8,9 @@ use native.Mathlib.Decide.{decLt, ℕ-discrete}
 use native.Mathlib.Nat.{zero-add, suc-add}
 use borrow.Author.Tests.{eq-eqb, eqb-true}
 use lib.Dec.{eqb}
-use lib.ListN.{length, getD, List·getD-eq-default}
+use lib.ListN.{length}
 use Rattle.model.specs.Lists.{table}
-use Rattle.model.specs.Memory.{System, systemAt, blank}
+use Rattle.model.specs.Memory.{System, systemAt}
 use Rattle.model.specs.Chain.{predOf, hop, noRing}
 use Rattle.model.proofs.Basics.{all-at, all-from, length-table, table-at}
 
@@ -60,16 +60,6 @@ up-to-in (suc n) x h k = go (ℕ-discrete x (suc n)) (λ k′. up-to-in n x h k�
 -- predecessors are places of the list
 abbrev pub InRange : List System → Type 0
 InRange l = (j : ℕ) → systemAt l j .pred ≤ length l
-
--- it is enough to look at the systems that are there
-pub in-range-from : (l : List System) → ((i : ℕ) → i < length l → getD l i blank .pred ≤ length l) → InRange l
-unfolding systemAt
-in-range-from l f zero = omega arith
-in-range-from l f (suc i) = go (decLt i (length l))
-  where
-    go : Dec (i < length l) → getD l i blank .pred ≤ length l
-    go (yes h) = f i h
-    go (no h) = rw (List·getD-eq-default l blank {n = i} (omega arith)) (omega arith)
 
 module _ (l : List System) where
   pub hop-zero : (i : ℕ) → hop l i 0 ≡ 0

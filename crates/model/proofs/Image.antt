@@ -1,25 +1,25 @@
 -- The saved image (specs/Image.antt): what a well-formed memory writes is read back, and nothing else is accepted.
-use Prim.Native.Nat.{ℕ, zero, suc, _+_, _*_, _-_, _/_, _%_, _≤_, _<_}
-use mathlib.Core.Path.{_≡_, refl, sym, ap, _∙_}
+use Prim.Native.Nat.{ℕ, _/_, _%_, _≤_}
+use mathlib.Core.Path.{_≡_, refl, ap, _∙_}
 use mathlib.Core.List.{List, [], _∷_, _++_, map, append-assoc, append-nil}
-use mathlib.Core.Bool.{Bool, true, false, cond, _&&_}
+use mathlib.Core.Bool.{true, _&&_}
 use mathlib.Core.Option.{Option, none, some}
-use native.Mathlib.Nat.{add-zero, mul-mod-right, mul-div-cancel-left, mul-add-mod-self-left, mul-add-div, div-add-mod, mod-lt}
+use native.Mathlib.Nat.{add-zero, mul-mod-right, mul-div-cancel-left, mul-add-mod-self-left, mul-add-div}
 use native.Mathlib.Omega.{arith}
-use lib.Dec.{eqb, leb}
 use lib.IntN.{ℤ, pos, negsuc}
-use lib.ListN.{length, take, drop, length-append}
+use lib.ListN.{length, length-append}
 use lib.Seq.{take-append-seam, drop-append-seam}
-use borrow.Author.Tests.{le-leb, eq-eqb, leb-true}
-use Rattle.model.specs.Types.{Kind, Ksd, Kst, Ksw, Ksb, Kld, Enabled, OperatingPart, Single, Pair}
+use borrow.Author.Tests.{le-leb}
+use Rattle.model.specs.Types.{Kind, Ksd, Kst, Ksw, Ksb, Kld, OperatingPart, Single, Pair}
 use Rattle.model.specs.Lists.{joined, same}
 use Rattle.model.specs.Limits.{maxSystems}
 use Rattle.model.specs.Kinds.{kinds, ofKind}
 use Rattle.model.specs.Memory.{System, Memory}
 use Rattle.model.specs.WellFormed.{memoryFine}
 use Rattle.model.specs.ImageClaims.{ReadsBack, AcceptedExactly, OneMemory}
-use Rattle.model.specs.Image.{edition, sevens, whole, signedCode, numbers, systemBytes, partNumbers, enabledBytes, image, Reader, _>>=_, give, fail, readWhole, readBytes, signedOf, kindOf, readSystem, readSystems, readPart, readMemory, imageOf?, accepted}
-use Rattle.model.proofs.Basics.{and-split, and-join, same-refl, same→≡}
+use Rattle.model.specs.Image.{whole, signedCode, numbers, systemBytes, partNumbers, enabledBytes, image, Reader, _>>=_, give, readWhole, readBytes, signedOf, kindOf, readSystem, readSystems, readPart, readMemory, imageOf?, accepted}
+use Rattle.model.proofs.Basics.{and-split, same-refl, same→≡}
+use Rattle.model.proofs.Readers.{then, nothing, passed}
 use Rattle.model.proofs.ImageLimits.{parts}
 use Rattle.model.proofs.Wholes.{read-whole}
 
@@ -28,7 +28,10 @@ use Rattle.model.proofs.Wholes.{read-whole}
 pub signed-back : (z : ℤ) → signedOf (signedCode z) ≡ z
 unfolding signedOf
 signed-back (pos n) = rw (mul-mod-right 2 n, mul-div-cancel-left n {n = 2} (omega arith))
-signed-back (negsuc n) = rw (mul-add-mod-self-left 2 n 1, mul-add-div {m = 2} (omega arith) n 1) (rw (add-zero n))
+signed-back (negsuc n) =
+    let odd : signedCode (negsuc n) % 2 ≡ 1 = mul-add-mod-self-left 2 n 1 in
+    let half : signedCode (negsuc n) / 2 ≡ n = mul-add-div {m = 2} (omega arith) n 1 ∙ add-zero n in
+    rw (odd, half)
 
 pub kind-back : (k : Kind) (bs : List ℕ) → kindOf kinds (ofKind k .code) bs ≡ some (k, bs)
 unfolding kindOf give
@@ -43,11 +46,6 @@ unfolding readBytes
 name-back l rest =
     let h : length l ≤ length (l ++ rest) = omega (arith, length-append l rest) in
     rw (le-leb (length l) (length (l ++ rest)) h, take-append-seam l rest, drop-append-seam l rest)
-
--- a reader that has read, and what is done with it
-pub then : {A B : Type 0} (r : Reader A) (f : A → Reader B) (bs : List ℕ) {a : A} {rest : List ℕ} → r bs ≡ some (a, rest) → _>>=_ r f bs ≡ f a rest
-unfolding _>>=_
-then r f bs e = rw (e, _>>=_)
 
 module _ {B : Type 0} where
   then-whole : (f : ℕ → Reader B) (n : ℕ) (rest : List ℕ) → _>>=_ readWhole f (whole n ++ rest) ≡ f n rest
@@ -108,14 +106,6 @@ unfolding imageOf?
 reads-back m h =
     let e : readMemory (image m) ≡ some (m, []) = rw append-nil at (read-memory m [] (parts m h .few)) in
     accept (image m) m [] e ∙ rw (h, same-refl (image m))
-
-pub nothing : {A C : Type 0} {y : A} → _≡_ {A = Option A} none (some y) → C
-nothing e = let q : _≡_ {A = ℕ} 0 1 = cc in absurd (omega arith)
-
--- a test that gave something was passed, and gave that
-pub passed : {A : Type 0} (t : Bool) (x y : A) → _≡_ {A = Option A} (cond t (some x) none) (some y) → (t ≡ true) × (x ≡ y)
-passed true x y e = (refl, cc)
-passed false x y e = nothing e
 
 -- what is accepted as m: m is well formed, and these are its bytes
 its-image : (bs : List ℕ) (n m : Memory) → imageOf? bs n ≡ some m → (memoryFine m ≡ true) × (image m ≡ bs)

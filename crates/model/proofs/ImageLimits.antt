@@ -1,22 +1,22 @@
 -- How large the numbers of a well-formed memory's image are, and how long the image is.
-use Prim.Native.Nat.{ℕ, zero, suc, _+_, _*_, _^_, _≤_, _<_}
-use mathlib.Core.Path.{_≡_, refl, sym, ap, _∙_}
+use Prim.Native.Nat.{ℕ, suc, _+_, _*_, _≤_, _<_}
+use mathlib.Core.Path.{_≡_, sym}
 use mathlib.Core.List.{List, [], _∷_, _++_, map}
-use mathlib.Core.Bool.{Bool, true, false, not, _&&_, _||_}
+use mathlib.Core.Bool.{true, _&&_}
 use mathlib.Core.Logic.{⊎-elim}
 use native.Mathlib.Omega.{arith}
 use lib.Dec.{eqb, leb}
-use lib.IntN.{ℤ, pos, negsuc, natAbs}
+use lib.IntN.{ℤ, pos, negsuc}
 use lib.ListN.{length, length-append}
 use borrow.Author.Tests.{leb-true, eqb-true}
 use Rattle.model.specs.Types.{Kind, Ksd, Kst, Ksw, Ksb, Kld, Enabled, OperatingPart, Single, Pair}
 use Rattle.model.specs.Lists.{all, joined}
 use Rattle.model.specs.Limits.{maxSystems, nameLimit, offsetLimit}
-use Rattle.model.specs.Kinds.{ofKind, sameKind}
-use Rattle.model.specs.Memory.{System, Memory, systemAt}
+use Rattle.model.specs.Kinds.{ofKind}
+use Rattle.model.specs.Memory.{System, Memory}
 use Rattle.model.specs.Words.{capital, nameByte, legalName, offset?}
 use Rattle.model.specs.WellFormed.{isKind, systemFine, operatingFine, enabledFine, memoryFine}
-use Rattle.model.specs.Image.{whole, signedCode, numbers, systemBytes, partNumbers, enabledBytes, image}
+use Rattle.model.specs.Image.{edition, whole, signedCode, numbers, systemBytes, partNumbers, enabledBytes, image}
 use Rattle.model.specs.ImageClaims.{Fits}
 use Rattle.model.proofs.Basics.{and-split, or-split, true-false}
 use Rattle.model.proofs.Wholes.{length-whole}
@@ -89,7 +89,7 @@ parts m e =
 
 -- ---- lengths
 
-code-within : (k : Kind) → ofKind k .code ≤ 5
+pub code-within : (k : Kind) → ofKind k .code ≤ 5
 code-within Ksd = omega arith
 code-within Kst = omega arith
 code-within Ksw = omega arith
@@ -160,7 +160,7 @@ fits m e =
       simp length-append
           (omega (
             arith,
-            one-group 1 (omega arith),
+            one-group edition (omega arith),
             one-group (length (m .systems)) (omega (arith, p .few)),
             length-systems (m .systems) (m .systems) (p .few) (p .fine),
             length-enabled (m .systems) (m .enabled) (p .few) (p .enabled),

@@ -19,7 +19,7 @@ use Rattle.model.specs.Image.{image}
 use Rattle.model.specs.Machine.{Outcome, Begun, written, carriedOut, stepped, restart, writeImage, startImage}
 use Rattle.model.specs.Trace.{Line, afterLines}
 use Rattle.model.specs.Demand.{noneTaken}
-use Rattle.model.specs.Checklist.{asksToSave, ListsAlike, SavedComesBack}
+use Rattle.model.specs.Checklist.{asksToSave, ListsAlike, switchedOn, SavedComesBack}
 use Rattle.model.proofs.Refusing.{by-case, step-fine, step-number, judged-refused, restart-fine, image-fine}
 use Rattle.model.proofs.Untaken.{untaken-lines}
 use Rattle.model.proofs.Queries.{query-taken}
@@ -87,13 +87,13 @@ lists-alike st st′ w w′ e line b q asked =
 
 -- an image written and read again, of a well-formed state
 image-back : (st : State) → wellFormed st ≡ true → (b : List ℕ) → bufferLimit ≤ length b →
-    startImage (take (writeImage st b .count) (writeImage st b .buffer)) .state ≡ started (st .permanent)
+    switchedOn (writeImage st b) ≡ started (st .permanent)
 unfolding short
 image-back st w b h =
     let m = st .permanent in
     let o = image-fine st b w (le-ltb (length b) bufferLimit h) in
     let t : take (writeImage st b .count) (writeImage st b .buffer) ≡ image m = rw o (take-append-seam (image m) (drop (length (image m)) b)) in
-    rw t (ap (λ (o : Begun). o .state) (start-some (image m) m (reads-back m (state-of st w .permanent))))
+    ap (λ (bs : List ℕ). startImage bs .state) t ∙ ap (λ (o : Begun). o .state) (start-some (image m) m (reads-back m (state-of st w .permanent)))
 
 pub saved-comes-back : (st : State) → wellFormed st ≡ true → SavedComesBack st
 saved-comes-back st w line b s z later none =
@@ -103,7 +103,7 @@ saved-comes-back st w line b s z later none =
     let w₂ = well-formed-kept .lines after later w₁ in
     let kept : end .permanent ≡ st .volatile = unsaved-lines after later none ∙ saved-line st line b s z in
     let back : restart end .state .volatile ≡ st .volatile = ap (λ (o : Begun). o .state .volatile) (restart-fine end w₂) ∙ kept in
-    let again : (c : List ℕ) → bufferLimit ≤ length c → startImage (take (writeImage end c .count) (writeImage end c .buffer)) .state .volatile ≡ st .volatile =
+    let again : (c : List ℕ) → bufferLimit ≤ length c → switchedOn (writeImage end c) .volatile ≡ st .volatile =
     λ c h. ap (λ (s : State). s .volatile) (image-back end w₂ c h) ∙ kept in
     record {
       memory = back;

@@ -1,7 +1,7 @@
 -- The checklist's first two items: KEN? shows one system or pair for each group, and KLN? leads every name down to its group's fixed system.
 use Prim.Native.Nat.{ℕ, zero, suc, _≤_, _<_}
 use mathlib.Core.Path.{_≡_, refl, sym, ap, _∙_}
-use mathlib.Core.List.{List, _++_, map, append-nil}
+use mathlib.Core.List.{List, map, append-nil}
 use mathlib.Core.Bool.{true, false}
 use mathlib.Core.Option.{some}
 use native.Mathlib.Omega.{arith}
@@ -18,7 +18,7 @@ use Rattle.model.specs.WellFormed.{wellFormed}
 use Rattle.model.specs.Request.{reading, asks, list, enabledOnes, links}
 use Rattle.model.specs.Refusals.{first, unreadable, queryLadder}
 use Rattle.model.specs.Reply.{everySystem, linkLine, listed}
-use Rattle.model.specs.Checklist.{Allowed, OneOrPair, one, work-and-tool, OneInEachGroup, below, followedDown, Down, LeadsDown}
+use Rattle.model.specs.Checklist.{Allowed, OneOrPair, one, work-and-tool, OneInEachGroup, below, followedDown, Down, lineBelow, LeadsDown}
 use Rattle.model.proofs.Open.{definitions-open}
 use Rattle.model.proofs.Basics.{true-false, ≡→same, table-cong, map-table}
 use Rattle.model.proofs.Hops.{hop-zero, ring-free}
@@ -139,22 +139,18 @@ module _ (m : Memory) (fine : Fine m) where
         few = omega (arith, c, steps-within l (r .place) end, fine .systems .few);
       }
 
-  -- the lines, with the name below each
-  line : Ref → List ℕ
-  line r = nameOf (m .systems) r ++ (ascii "=" ++ below m (nameOf (m .systems) r))
-
-  line-is : {r : Ref} → IsSystem (m .systems) r → linkLine (m .systems) r ≡ line r
-  unfolding linkLine joined line
+  line-is : {r : Ref} → IsSystem (m .systems) r → linkLine (m .systems) r ≡ lineBelow m r
+  unfolding linkLine joined
   line-is s = rw (append-nil, below-name s)
 
-  lines-are : map (linkLine (m .systems)) (everySystem (m .systems)) ≡ map line (everySystem (m .systems))
+  lines-are : map (linkLine (m .systems)) (everySystem (m .systems)) ≡ map (lineBelow m) (everySystem (m .systems))
   unfolding everySystem
   lines-are =
       let l = m .systems in
-      let rest : map (linkLine l) (table (length l) (λ i. userRef l (suc i))) ≡ map line (table (length l) (λ i. userRef l (suc i))) =
+      let rest : map (linkLine l) (table (length l) (λ i. userRef l (suc i))) ≡ map (lineBelow m) (table (length l) (λ i. userRef l (suc i))) =
       map-table (linkLine l) (length l) (λ i. userRef l (suc i))
-      ∙ table-cong (length l) (λ i. linkLine l (userRef l (suc i))) (λ i. line (userRef l (suc i))) (λ i h. line-is (user (suc i) (omega arith)))
-      ∙ sym (map-table line (length l) (λ i. userRef l (suc i))) in
+      ∙ table-cong (length l) (λ i. linkLine l (userRef l (suc i))) (λ i. lineBelow m (userRef l (suc i))) (λ i h. line-is (user (suc i) (omega arith)))
+      ∙ sym (map-table (lineBelow m) (length l) (λ i. userRef l (suc i))) in
       rw (line-is (fixed Operating), line-is (fixed Orientational), line-is (fixed Levelling), rest)
 
 kln-read : reading (ascii "KLN?") ≡ asks (list links)
@@ -166,7 +162,7 @@ unfolding definitions-open
 kln-readable = refl
 
 pub kln-leads : (st : State) → wellFormed st ≡ true → LeadsDown st
-unfolding listed queryLadder first line
+unfolding listed queryLadder first
 kln-leads st w =
     let m = st .volatile in
     let f = fine-of m (state-of st w .volatile) in

@@ -1,6 +1,6 @@
 -- The checklist's third item: a system that is enabled, or on the chain of an enabled one, is neither redefined, linked, copied over nor removed.
-use Prim.Native.Nat.{ℕ, zero, suc, _≤_, _<_}
-use mathlib.Core.Path.{_≡_, refl, sym, ap, _∙_}
+use Prim.Native.Nat.{ℕ, suc, _≤_, _<_}
+use mathlib.Core.Path.{_≡_, sym, ap, _∙_}
 use mathlib.Core.List.{List, [], _∷_, _++_, map}
 use mathlib.Core.Bool.{Bool, true, false, _||_}
 use mathlib.Core.Logic.{⊎-elim}
@@ -10,12 +10,10 @@ use borrow.Author.Tests.{eq-eqb}
 use lib.Dec.{eqb}
 use lib.ListN.{length, getD, length-map, List·getD-map}
 use Rattle.model.specs.Types.{Group, Operating, Orientational, Levelling, OperatingPart, Single, Pair}
-use Rattle.model.specs.Lists.{any, same, oneOf}
-use Rattle.model.specs.Kinds.{ofGroup}
+use Rattle.model.specs.Lists.{any, same}
 use Rattle.model.specs.Memory.{System, Memory, State, Ref, nameOf, placeNamed, isUser}
 use Rattle.model.specs.Chain.{hop, steps, chain, onChain}
 use Rattle.model.specs.Use.{operatingPlaces, inGroup, enabledRefs, inUse, nameInUse}
-use Rattle.model.specs.Words.{reserved}
 use Rattle.model.specs.WellFormed.{wellFormed}
 use Rattle.model.specs.Request.{Change, reading, asks, change, define, link, copy, remove, enable, setLevel, save, restore, reset}
 use Rattle.model.specs.Refusals.{Rung, refusal, ladder, readingLadder, requestLadder, changeLadder}
@@ -27,17 +25,11 @@ use Rattle.model.proofs.Basics.{and-join, or-split, or-left, or-right, 
 use Rattle.model.proofs.Hops.{hop-in-range}
 use Rattle.model.proofs.Steps.{chain-length, chain-at, hop→on-chain}
 use Rattle.model.proofs.Fine.{Fine, preds-within, state-of, fine-of}
-use Rattle.model.proofs.Named.{user-place, place-stands, place-name}
-use Rattle.model.proofs.Found.{user-not-reserved}
+use Rattle.model.proofs.Named.{user-place}
+use Rattle.model.proofs.Found.{name-place}
 use Rattle.model.proofs.Frames.{PartHas, enabled-within}
 use Rattle.model.proofs.Ladder.{ladder-ascends, none-applies, first-applies, first-only}
 use Rattle.model.proofs.Refusing.{step-number, refusal-range, refusals-change-nothing}
-
-fixed-reserved : (g : Group) → reserved (ofGroup g .name) ≡ true
-unfolding reserved oneOf any same
-fixed-reserved Operating = refl
-fixed-reserved Orientational = refl
-fixed-reserved Levelling = refl
 
 module _ (m : Memory) (fine : Fine m) (n : List ℕ) (found : isUser m n ≡ true) where
   abbrev l : List System
@@ -49,33 +41,29 @@ module _ (m : Memory) (fine : Fine m) (n : List ℕ) (found : isUser m n ≡ tru
   pos : 0 < k
   pos = user-place m n found
 
-  -- only the system at its place has the name
-  name-place : (g : Group) (q : ℕ) → q ≤ length l → nameOf l (inGroup g q) ≡ n → q ≡ k
-  unfolding nameOf
-  name-place g zero h e = true-false (sym (fixed-reserved g) ∙ ap reserved (e ∙ sym (place-name l n pos)) ∙ user-not-reserved m fine k (place-stands l n pos))
-  name-place g (suc i) h e = fine .systems .differ (suc i) k (omega arith) (place-stands l n pos) (e ∙ sym (place-name l n pos))
-
   -- the test of use at an enabled place
   abbrev meets : ℕ → Bool
   meets q = eqb k q || onChain l k q
 
-  under-meets : (g : Group) (q : ℕ) → q ≤ length l → under (held m (inGroup g q)) n ≡ true → meets q ≡ true
-  unfolding held any
-  under-meets g q h e =
-      ⊎-elim (λ s. or-left (eqb k q) _ (eq-eqb k q (sym (name-place g q h (sym (same→≡ n _ s)))))) later
-      (or-split (same n (nameOf l (inGroup g q))) (any (same n) (map name (chain l q))) e)
+  -- a name among those of a chain is on the chain
+  pub named-on-chain : (g : Group) (q : ℕ) → q ≤ length l → any (same n) (map (λ x. nameOf l (inGroup g x)) (chain l q)) ≡ true → onChain l k q ≡ true
+  named-on-chain g q h s =
+      let w = any-where (same n) (map name (chain l q)) (name 0) s in
+      let i = w .0 in
+      let lt : i < steps l q = omega (arith, chain-length l q, length-map (chain l q) name, w .1) in
+      let at : getD (map name (chain l q)) i (name 0) ≡ name (hop l (suc i) q) = List·getD-map name (chain l q) i 0 ∙ ap name (chain-at l q i lt) in
+      let there = hop-in-range l (preds-within (fine .systems)) (suc i) q h in
+      hop→on-chain l k q i lt (name-place m fine n found g (hop l (suc i) q) there (sym at ∙ sym (same→≡ n _ (w .2))))
     where
       name : ℕ → List ℕ
       name x = nameOf l (inGroup g x)
 
-      later : any (same n) (map name (chain l q)) ≡ true → meets q ≡ true
-      later s =
-          let w = any-where (same n) (map name (chain l q)) (name 0) s in
-          let i = w .0 in
-          let lt : i < steps l q = omega (arith, chain-length l q, length-map (chain l q) name, w .1) in
-          let at : getD (map name (chain l q)) i (name 0) ≡ name (hop l (suc i) q) = List·getD-map name (chain l q) i 0 ∙ ap name (chain-at l q i lt) in
-          let e : name (hop l (suc i) q) ≡ n = sym at ∙ sym (same→≡ n _ (w .2)) in
-          or-right (eqb k q) _ (hop→on-chain l k q i lt (name-place g (hop l (suc i) q) (hop-in-range l (preds-within (fine .systems)) (suc i) q h) e))
+  under-meets : (g : Group) (q : ℕ) → q ≤ length l → under (held m (inGroup g q)) n ≡ true → meets q ≡ true
+  unfolding held any
+  under-meets g q h e =
+      ⊎-elim (λ s. or-left (eqb k q) _ (eq-eqb k q (sym (name-place m fine n found g q h (sym (same→≡ n _ s))))))
+      (λ s. or-right (eqb k q) _ (named-on-chain g q h s))
+      (or-split (same n (nameOf l (inGroup g q))) (any (same n) (map (λ x. nameOf l (inGroup g x)) (chain l q))) e)
 
   pub under-in-use : underEnabled m n ≡ true → nameInUse m n ≡ true
   unfolding underEnabled frames heldPart nameInUse inUse enabledRefs any

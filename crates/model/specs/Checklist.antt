@@ -14,7 +14,7 @@ use Rattle.model.specs.Request.{Change, Query, Reading, reading, unknown
 use Rattle.model.specs.Effects.{withError}
 use Rattle.model.specs.Refusals.{ladder}
 use Rattle.model.specs.Reply.{listing, everySystem, enabledLine}
-use Rattle.model.specs.Machine.{stepped, restart, writeImage, startImage}
+use Rattle.model.specs.Machine.{Outcome, stepped, restart, writeImage, startImage}
 use Rattle.model.specs.Trace.{Call, Line, afterCalls, afterLines}
 use Rattle.model.specs.Claims.{applies}
 use Rattle.model.specs.Demand.{Start, startState, noneTaken, Replies, Held, HeldPart, alone, pair, frames}
@@ -54,14 +54,19 @@ followedDown m (suc i) n = followedDown m i (below m n)
 
 -- the lines followed from a system's name pass the names on its chain, one after the other, and end at its group's fixed system, in no more than 16
 pub record Down (m : Memory) (n : List ℕ) (r : Ref) : Type 0 where
-  pub passes : (i : ℕ) → i ≤ length (chain (m .systems) (r .place)) → followedDown m i n ≡ nameOf (m .systems) (inGroup (r .group) (hop (m .systems) i (r .place)))
+  pub passes : (i : ℕ) → i ≤ length (chain (m .systems) (r .place)) →
+      followedDown m i n ≡ nameOf (m .systems) (inGroup (r .group) (hop (m .systems) i (r .place)))
   pub ends : followedDown m (length (chain (m .systems) (r .place))) n ≡ ofGroup (r .group) .name
   pub few : length (chain (m .systems) (r .place)) ≤ maxSystems
+
+-- NAME=BELOW
+abbrev pub lineBelow : Memory → Ref → List ℕ
+lineBelow m r = nameOf (m .systems) r ++ (ascii "=" ++ below m (nameOf (m .systems) r))
 
 -- so it is from every name, and KLN? shows for each system the name below it
 pub record LeadsDown (st : State) : Type 0 where
   pub down : (n : List ℕ) (r : Ref) → find (st .volatile) n ≡ some r → Down (st .volatile) n r
-  pub shown : Replies st (ascii "KLN?") (listing (map (λ (r : Ref). nameOf (st .volatile .systems) r ++ (ascii "=" ++ below (st .volatile) (nameOf (st .volatile .systems) r))) (everySystem (st .volatile .systems))))
+  pub shown : Replies st (ascii "KLN?") (listing (map (lineBelow (st .volatile)) (everySystem (st .volatile .systems))))
 
 -- ---- (3) a system under an enabled one is neither redefined, linked, copied over nor removed
 
@@ -121,14 +126,19 @@ asksToSave (asks lastError) = false
 -- the same answer to every listing, whatever bytes ask for it
 abbrev pub ListsAlike : State → State → Type 0
 ListsAlike st st′ = (line b : List ℕ) (q : Query) → reading line ≡ asks (list q) →
-    (stepped st′ line b .number ≡ stepped st line b .number) × (stepped st′ line b .count ≡ stepped st line b .count) × (stepped st′ line b .buffer ≡ stepped st line b .buffer)
+    (stepped st′ line b .number ≡ stepped st line b .number) × (stepped st′ line b .count ≡ stepped st line b .count)
+    × (stepped st′ line b .buffer ≡ stepped st line b .buffer)
+
+-- a start from the bytes that a call wrote
+abbrev pub switchedOn : Outcome → State
+switchedOn o = startImage (take (o .count) (o .buffer)) .state
 
 -- st saved by an accepted WPA; then lines without another; then a restart, or an image written and a start from the bytes written
 pub record ComesBack (st : State) (later : State) : Type 0 where
   pub memory : restart later .state .volatile ≡ st .volatile
   pub lists : ListsAlike st (restart later .state)
-  pub image-memory : (b : List ℕ) → bufferLimit ≤ length b → let o = writeImage later b in startImage (take (o .count) (o .buffer)) .state .volatile ≡ st .volatile
-  pub image-lists : (b : List ℕ) → bufferLimit ≤ length b → let o = writeImage later b in ListsAlike st (startImage (take (o .count) (o .buffer)) .state)
+  pub image-memory : (b : List ℕ) → bufferLimit ≤ length b → switchedOn (writeImage later b) .volatile ≡ st .volatile
+  pub image-lists : (b : List ℕ) → bufferLimit ≤ length b → ListsAlike st (switchedOn (writeImage later b))
 
 abbrev pub SavedComesBack : State → Type 0
 SavedComesBack st =

@@ -24,5 +24,6 @@ pub mod Trace
 pub mod Demand
 pub mod Claims
 pub mod Checklist
+pub mod Removed
 pub mod Table
 pub mod Stored

@@ -9,7 +9,7 @@ use native.Mathlib.Omega.{arith}
 use lib.IntN.{ℤ, pos, negsuc, natAbs}
 use lib.Signed.{ltZ}
 use lib.Dec.{ltb}
-use lib.ListN.{length, take, drop, getD, set, length-set, length-append, length-drop, drop-of-length-le}
+use lib.ListN.{length, take, drop, getD, set, length-set, length-append, length-take, length-drop, drop-of-length-le}
 use lib.Pow.{pow-add}
 use lib.Seq.{sets, sets-eq, take-all, drop-cons, drop-drop}
 use borrow.Author.Tests.{ltb-true, lt-ltb, le-ltb}
@@ -85,6 +85,10 @@ wrote-part {t} {y} b at h w =
     let none : drop (length b - at) p ≡ [] = drop-of-length-le p {i = length b - at} (omega arith) in
     let ey : y ≡ t ++ drop (at + length t) b = w .bytes ∙ rw whole (over-front t p (omega arith) ∙ rw (drop-drop (length t) at b)) in
     record { place = omega (arith, w .place); bytes = rw (none, append-nil y, ey) (sym (over-split t b at h)) }
+
+-- there is as much room in the rest of a part as the part has left
+pub rest-room : (b : List ℕ) (at n : ℕ) → at + n ≤ length b → n ≤ length (take (length b - at) (drop at b))
+rest-room b at n h = rw (length-take, length-drop) (omega arith)
 
 -- ---- digits
 

@@ -11,6 +11,7 @@ ghost use Rattle.model.specs.Stored.{bytesOf};
 ghost use Rattle.model.specs.Reply.{lastDigits, decimal, value, degrees};
 ghost use Rattle.print.specs.Over.{Wrote, millionths};
 
+// The text as it is.
 pub fn put_text(out: &mut [u8], at: usize, text: &[u8]) -> usize
     requires { ⌜ at + length (now text) ≤ length (now out) ⌝ }
     ensures { λ r. ⌜ Wrote (now (text .entry)) (now (out .entry)) at (now (out .exit)) r ⌝ }
@@ -24,6 +25,7 @@ pub fn put_text(out: &mut [u8], at: usize, text: &[u8]) -> usize
     at + n
 }
 
+// The bytes of a stored name that count.
 pub fn put_name(out: &mut [u8], at: usize, name: Name) -> usize
     requires { ⌜ (name .len ≤ nameLimit) × (at + length (bytesOf name) ≤ length (now out)) ⌝ }
     ensures { λ r. ⌜ Wrote (bytesOf name) (now (out .entry)) at (now (out .exit)) r ⌝ }
@@ -112,6 +114,7 @@ fn negated(z: i64) -> i64
     -z
 }
 
+// Without its sign.
 fn magnitude(z: i64) -> u64
     requires { ⌜ natAbs z < 2 ^ 63 ⌝ }
     ensures { λ r. ⌜ r ≡ natAbs z ⌝ }
@@ -123,6 +126,7 @@ fn magnitude(z: i64) -> u64
     z as u64
 }
 
+// z millionths with six decimals, and a minus only below zero.
 pub fn put_value(out: &mut [u8], at: usize, z: i64) -> usize
     requires { ⌜ (natAbs z < 2 ^ 63) × (at + length (value z) ≤ length (now out)) ⌝ }
     ensures { λ r. ⌜ Wrote (value z) (now (out .entry)) at (now (out .exit)) r ⌝ }

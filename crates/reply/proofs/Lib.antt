@@ -5,3 +5,5 @@ pub mod StoredLaws
 pub mod TurnLaws
 pub mod ShortLaws
 pub mod PlanLaws
+pub mod EnabledLaws
+pub mod ReachLaws

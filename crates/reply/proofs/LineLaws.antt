@@ -7,11 +7,11 @@ use lib.ListN.{length, length-append}
 use Rattle.model.specs.Ascii.{ascii}
 use Rattle.model.specs.Lists.{joined}
 use Rattle.model.specs.Kinds.{ofKind, ofGroup}
-use Rattle.model.specs.Memory.{System}
+use Rattle.model.specs.Memory.{System, Ref, fixedRef}
 use Rattle.model.specs.Reply.{decimal, sixValues}
 use Rattle.reply.specs.Types.{Vec3, Turns, Group, Operating, Orientational, Levelling}
 use Rattle.reply.specs.Values.{byGroup}
-use Rattle.reply.specs.Lines.{systemText, atFixed, predText, linkText, enabledText, resultantText}
+use Rattle.reply.specs.Lines.{systemText, atFixed, predText, linkText, enabledText, resultantText, fixedLines}
 
 pub length-system : (s : System) → length (systemText s) ≡ 11 + length (s .name) + length (ofKind (s .kind) .shown) + length (sixValues (s .offset) (s .turns))
 unfolding systemText joined
@@ -25,6 +25,9 @@ pub length-resultant : (n : List ℕ) (g : Group) (t : Vec3) (r : Turns) (k : �
     → length (resultantText n g t r k) ≡ 33 + length n + length (ofGroup g .end) + length (sixValues t r) + length (decimal k)
 unfolding resultantText joined
 length-resultant n g t r k = simp (length-append, append-nil) (omega arith)
+
+pub length-fixed : (f : Ref → List ℕ) → length (fixedLines f) ≡ 4 + length (f (fixedRef Operating)) + length (f (fixedRef Orientational)) + length (f (fixedRef Levelling))
+length-fixed f = simp length-append (omega arith)
 
 -- ---- a place is the fixed system's, or another
 

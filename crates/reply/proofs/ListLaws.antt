@@ -1,19 +1,18 @@
 -- A list by what follows its first lines, and what its loop keeps.
-use Prim.Native.Nat.{ℕ, zero, suc, _+_, _-_, _*_, _≤_, _<_}
-use mathlib.Core.Path.{_≡_, refl, sym, ap, subst, _∙_}
+use Prim.Native.Nat.{ℕ, zero, suc, _+_, _-_, _≤_, _<_}
+use mathlib.Core.Path.{_≡_, refl, sym, ap, _∙_}
 use mathlib.Core.List.{List, [], _∷_, _++_, map, append-assoc, append-nil}
 use native.Mathlib.Nat.{add-zero}
-use native.Mathlib.Numerals.{add-one, one-add}
+use native.Mathlib.Numerals.{one-add}
 use native.Mathlib.Omega.{arith}
-use lib.ListN.{length, take, drop, length-append, length-take, length-drop}
-use borrow.Rule.Slice.PartMut.{putMid, same-len-mid}
+use lib.ListN.{length, take, drop, length-append}
+use borrow.Rule.Slice.PartMut.{putMid}
 use Rattle.model.specs.Lists.{joined, table}
 use Rattle.model.specs.Memory.{System, Ref, fixedRef, userRef}
-use Rattle.model.specs.Machine.{written}
 use Rattle.model.specs.Reply.{listing, everySystem}
-use Rattle.model.proofs.Carry.{map-table}
+use Rattle.model.proofs.Basics.{map-table}
 use Rattle.print.specs.Over.{over, Wrote}
-use Rattle.print.proofs.Laws.{length-over, over-append, over-front, wrote-then, wrote-part}
+use Rattle.print.proofs.Laws.{length-over, over-append, over-front, wrote-then, wrote-part, rest-room}
 use Rattle.reply.specs.Types.{Operating, Orientational, Levelling}
 use Rattle.reply.specs.Lines.{further, furtherLines, fixedLines, Replied}
 
@@ -84,7 +83,7 @@ module _ {f : ℕ → List ℕ} {count : ℕ} {b₀ : List ℕ} {at₀ : ℕ} {b
 
   -- there is room for another line in the rest of the buffer
   pub going-room : i < count → length (further (f (suc i))) ≤ length (take (length b - at) (drop at b))
-  going-room h = rw (length-take, length-drop) (omega (arith, going-fits h))
+  going-room h = rest-room b at _ (going-fits h)
 
   pub going-on : {n : ℕ} → i < count → n ≡ 0 + length (further (f (suc i))) → at + n ≤ length b
   going-on h e = omega (arith, going-fits h)

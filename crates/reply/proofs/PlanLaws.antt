@@ -1,13 +1,13 @@
 -- How each list of a well-formed stored memory is made up.
-use Prim.Native.Nat.{ℕ, _≤_}
+use Prim.Native.Nat.{ℕ}
 use mathlib.Core.Path.{_≡_, refl, _∙_}
 use mathlib.Core.List.{List, [], map}
 use native.Mathlib.Omega.{arith}
 use lib.ListN.{length}
 use Rattle.model.specs.Memory.{System, Ref, userRef}
 use Rattle.model.specs.Stored.{systemsOf, memoryOf}
-use Rattle.model.specs.Request.{Query, systemsAll, links}
-use Rattle.model.specs.Reply.{listing, everySystem, systemLine, linkLine, listed}
+use Rattle.model.specs.Request.{Query, systemsAll, links, resultants}
+use Rattle.model.specs.Reply.{listing, everySystem, systemLine, linkLine, resultantLine, listed}
 use Rattle.model.proofs.Open.{definitions-open}
 use Rattle.reply.specs.Types.{StoredMemory}
 use Rattle.reply.specs.Lines.{Ready, fixedLines}
@@ -28,6 +28,10 @@ fixed-links : (l : List System) → fixedLines (linkLine l) ≡ fixedLines (link
 unfolding definitions-open
 fixed-links l = refl
 
+fixed-resultants : (l : List System) → fixedLines (resultantLine l) ≡ fixedLines (resultantLine [])
+unfolding definitions-open
+fixed-resultants l = refl
+
 module _ (m : StoredMemory) {b : List ℕ} (ready : Ready m b) (long : length (m .systems) ≡ 16) where
   plan : (q : Query) (line : List System → Ref → List ℕ) → listed (memoryOf m) q ≡ listing (map (line (systemsOf m)) (everySystem (systemsOf m)))
       → fixedLines (line (systemsOf m)) ≡ fixedLines (line []) → Plan (listed (memoryOf m) q) (fixedLines (line [])) (lineAt line m) (m .count) b
@@ -44,3 +48,7 @@ module _ (m : StoredMemory) {b : List ℕ} (ready : Ready m b) (long : length (m
   pub links-plan : Plan (listed (memoryOf m) links) (fixedLines (linkLine [])) (lineAt linkLine m) (m .count) b
   unfolding listed
   links-plan = plan links linkLine refl (fixed-links (systemsOf m))
+
+  pub resultants-plan : Plan (listed (memoryOf m) resultants) (fixedLines (resultantLine [])) (lineAt resultantLine m) (m .count) b
+  unfolding listed
+  resultants-plan = plan resultants resultantLine refl (fixed-resultants (systemsOf m))

@@ -1,6 +1,6 @@
 -- Every reply of a well-formed memory is shorter than the least lent buffer.
 use Prim.Native.Nat.{ℕ, zero, suc, _+_, _*_, _≤_, _<_}
-use mathlib.Core.Path.{_≡_, refl, sym, ap, _∙_}
+use mathlib.Core.Path.{_≡_}
 use mathlib.Core.Bool.{true, not, _&&_}
 use mathlib.Core.List.{List, [], _∷_, _++_, map, append-nil}
 use native.Mathlib.Omega.{arith}
@@ -19,12 +19,12 @@ use Rattle.model.specs.Chain.{steps, resultant}
 use Rattle.model.specs.Use.{operatingPlaces, inGroup, enabledRefs}
 use Rattle.model.specs.WellFormed.{offsetsFine, turnsFine, memoryFine}
 use Rattle.model.specs.Request.{Query, enabledOnes, systemsAll, links, resultants, resultantOf}
-use Rattle.model.specs.Reply.{sixValues, decimal, listing, everySystem, enabledLine, linkLine, systemLine, resultantLine, listed}
+use Rattle.model.specs.Reply.{sixValues, listing, everySystem, enabledLine, linkLine, systemLine, resultantLine, listed}
 use Rattle.model.proofs.Basics.{and-split}
 use Rattle.model.proofs.Fine.{Systems, ownFine, fine-of, blank-beyond}
 use Rattle.print.proofs.Laws.{value-short, decimal-short}
 use Rattle.reply.specs.Types.{Vec3, Turns, Kind, Ksd, Kst, Ksw, Ksb, Kld, Group, Operating, Orientational, Levelling, Enabled, OperatingPart, Single, Pair}
-use Rattle.reply.specs.Lines.{furtherLines, fixedLines}
+use Rattle.reply.specs.Lines.{furtherLines}
 use Rattle.reply.proofs.ValueLaws.{length-offsets, length-turns, length-six}
 use Rattle.reply.proofs.ListLaws.{every-list}
 
@@ -111,7 +111,7 @@ module _ (l : List System) (fine : Systems l) where
       let s = systemAt l (r .place) in
       simp (length-append, append-nil) (omega (arith, name-short (r .group) (r .place), type-short (r .group) (r .place), six-short (s .offset) (s .turns)))
 
-  resultant-short : (r : Ref) → length (resultantLine l r) ≤ 158
+  pub resultant-short : (r : Ref) → length (resultantLine l r) ≤ 158
   unfolding resultantLine joined
   resultant-short r =
       let p = resultant l (r .place) in

@@ -1,8 +1,7 @@
 -- What a well-formed stored memory gives the writers.
-use Prim.Native.Nat.{ℕ, zero, suc, _-_, min, _≤_, _<_}
-use mathlib.Core.Path.{_≡_, refl, sym, ap, _∙_}
+use Prim.Native.Nat.{ℕ, suc, _≤_, _<_}
+use mathlib.Core.Path.{_≡_, ap, _∙_}
 use mathlib.Core.Bool.{true, not, _&&_}
-use mathlib.Core.List.{List, map}
 use native.Mathlib.Omega.{arith}
 use borrow.Author.Tests.{leb-true}
 use lib.Dec.{leb}
@@ -16,13 +15,12 @@ use Rattle.model.specs.Words.{legalName, reserved}
 use Rattle.model.specs.WellFormed.{offsetsFine, turnsFine, memoryFine}
 use Rattle.model.proofs.Basics.{and-split, all-at}
 use Rattle.model.proofs.Fine.{ownFine, fine-of, preds-within}
-use Rattle.pose.specs.Poses.{Within, Quarters, reach}
+use Rattle.pose.specs.Poses.{Quarters, reach}
 use Rattle.pose.proofs.Bounds.{within-more}
-use Rattle.chains.specs.Walk.{Walkable}
 use Rattle.chains.proofs.Copies.{unset}
 use Rattle.chains.proofs.Laid.{stored-length, stored-at}
 use Rattle.chains.proofs.Ready.{walkable}
-use Rattle.reply.specs.Types.{Turns, StoredSystem, StoredMemory}
+use Rattle.reply.specs.Types.{Turns, StoredMemory}
 use Rattle.reply.specs.Lines.{Writable}
 
 -- ---- the turns of a system

@@ -1,5 +1,5 @@
 -- Laws of the six values as text.
-use Prim.Native.Nat.{ℕ, _+_, _≤_}
+use Prim.Native.Nat.{ℕ, _+_}
 use mathlib.Core.Path.{_≡_}
 use mathlib.Core.List.{List, [], _++_, append-assoc, append-nil}
 use native.Mathlib.Omega.{arith}
@@ -8,7 +8,6 @@ use Rattle.model.specs.Lists.{joined}
 use Rattle.model.specs.Reply.{value, degrees, sixValues}
 use Rattle.reply.specs.Types.{Vec3, Turns}
 use Rattle.reply.specs.Values.{axisText, offsetsText, turnsText}
-use Rattle.print.proofs.Laws.{value-short}
 
 pub length-offsets : (t : Vec3) → length (offsetsText t) ≡ 9 + length (value (t .x)) + length (value (t .y)) + length (value (t .z))
 unfolding offsetsText

@@ -2,3 +2,4 @@ pub mod Types
 pub mod Values
 pub mod Lines
 pub mod EnabledText
+pub mod Reached

@@ -1,7 +1,6 @@
 -- Own values and resultants as text, by parts.
 use Rattle.model.specs.Base.{ℕ, List, [], _∷_, _++_}
 use Rattle.reply.specs.Types.{Vec3, Turns, Group, Operating, Orientational, Levelling}
-use Rattle.model.specs.Lists.{joined}
 use Rattle.model.specs.Reply.{value, degrees}
 
 -- one of three, by the group

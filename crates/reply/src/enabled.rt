@@ -16,7 +16,7 @@ ghost use Rattle.model.specs.Stored.{systemOf, memoryOf};
 ghost use Rattle.model.specs.Request.{enabledOnes};
 ghost use Rattle.model.specs.Reply.{listed};
 ghost use Rattle.print.specs.Over.{Wrote};
-ghost use Rattle.reply.specs.Lines.{Ready, Replied};
+ghost use Rattle.reply.specs.Lines.{Ready, Replied, further, enabledText};
 ghost use Rattle.reply.specs.EnabledText.{firstPlace, toolPlace, pair?, toolText, groupsText, GroupsFit};
 
 // The one operating place, or the work half's.
@@ -47,6 +47,15 @@ fn is_pair(part: OperatingPart) -> bool
     }
 }
 
+// A further line, in what is left of the buffer; the place after it.
+fn put_next(reply: &mut [u8], at: usize, g: Group, place: u8, s: System) -> usize
+    requires { ⌜ (0 < place → s .name .len ≤ nameLimit) × (at + length (further (enabledText g place (systemOf s))) ≤ length (now reply)) ⌝ }
+    ensures { λ r. ⌜ Wrote (further (enabledText g place (systemOf s))) (now (reply .entry)) at (now (reply .exit)) r ⌝ }
+{
+    let n = put_further_enabled(&mut reply[at..], g, place, s);
+    at + n
+}
+
 // The tool's line, where a pair is enabled.
 fn put_tool(reply: &mut [u8], at: usize, part: OperatingPart, s: System) -> usize
     requires { ⌜ (0 < toolPlace part → s .name .len ≤ nameLimit) × (at + length (toolText part (systemOf s)) ≤ length (now reply)) ⌝ }
@@ -56,8 +65,7 @@ fn put_tool(reply: &mut [u8], at: usize, part: OperatingPart, s: System) -> usiz
         return at;
     }
     let place = tool_place(part);
-    let n = put_further_enabled(&mut reply[at..], Group::Operating, place, s);
-    at + n
+    put_next(reply, at, Group::Operating, place, s)
 }
 
 // The lines of the other two groups, o and l where they are user systems, and the end of the last.
@@ -65,10 +73,9 @@ fn put_groups(reply: &mut [u8], at: usize, e: Enabled, o: System, l: System) -> 
     requires { ⌜ GroupsFit e o l × (at + length (groupsText e (systemOf o) (systemOf l)) ≤ length (now reply)) ⌝ }
     ensures { λ r. ⌜ Wrote (groupsText e (systemOf o) (systemOf l)) (now (reply .entry)) at (now (reply .exit)) r ⌝ }
 {
-    let n = put_further_enabled(&mut reply[at..], Group::Orientational, e.orientational, o);
-    let next = at + n;
-    let last = put_further_enabled(&mut reply[next..], Group::Levelling, e.levelling, l);
-    put_byte(reply, next + last, b'\n')
+    let i = put_next(reply, at, Group::Orientational, e.orientational, o);
+    let j = put_next(reply, i, Group::Levelling, e.levelling, l);
+    put_byte(reply, j, b'\n')
 }
 
 pub fn enabled(m: Memory, reply: &mut [u8]) -> usize

@@ -21,6 +21,7 @@ ghost use Rattle.reply.specs.Lines.{Ready, Replied};
 pub mod texts; // texts.rt: types, groups and own values as text
 pub mod lines; // lines.rt: the lines of the lists
 pub mod enabled; // enabled.rt: KEN?
+pub mod resultants; // resultants.rt: KLT?
 
 // The index of the system at a place; for place 0, no user system's, that of some system.
 fn slot(place: u8) -> usize

@@ -13,11 +13,11 @@ use model::Vec3;
 use print::put_decimal;
 use print::put_name;
 use print::put_text;
-ghost use mathlib.Core.Path.{_≡_};
 ghost use mathlib.Core.List.{[]};
 ghost use Prim.Native.Nat.{_+_, _≤_, _<_};
 ghost use lib.ListN.{length};
 ghost use Rattle.model.specs.Limits.{nameLimit};
+ghost use Rattle.model.specs.Memory.{fixedRef};
 ghost use Rattle.model.specs.Stored.{bytesOf, systemOf};
 ghost use Rattle.model.specs.Reply.{systemLine, linkLine, resultantLine};
 ghost use Rattle.pose.specs.Poses.{Within, Quarters, reach};
@@ -126,25 +126,30 @@ pub fn put_further_enabled(part: &mut [u8], g: Group, place: u8, s: System) -> u
 
 // ---- KLT?
 
+// The line of a group's fixed system.
+pub fn put_fixed_resultant(out: &mut [u8], at: usize, g: Group) -> usize
+    requires { ⌜ at + length (resultantLine [] (fixedRef g)) ≤ length (now out) ⌝ }
+    ensures { λ r. ⌜ Wrote (resultantLine [] (fixedRef g)) (now (out .entry)) at (now (out .exit)) r ⌝ }
+{
+    put_by_group(
+        out,
+        at,
+        g,
+        b"Name=ZERO EndCoordinateSystem=ZERO X=0.000000 Y=0.000000 Z=0.000000 U=0.000000 V=0.000000 W=0.000000 Steps=0",
+        b"Name=PI_BASE EndCoordinateSystem=HEXAPOD X=0.000000 Y=0.000000 Z=0.000000 U=0.000000 V=0.000000 W=0.000000 Steps=0",
+        b"Name=PI_LEVELLING EndCoordinateSystem=HEXAPOD X=0.000000 Y=0.000000 Z=0.000000 U=0.000000 V=0.000000 W=0.000000 Steps=0",
+    )
+}
+
 pub fn put_fixed_resultants(out: &mut [u8]) -> usize
     requires { ⌜ length (fixedLines (resultantLine [])) ≤ length (now out) ⌝ }
     ensures { λ r. ⌜ Wrote (fixedLines (resultantLine [])) (now (out .entry)) 0 (now (out .exit)) r ⌝ }
 {
-    let i = put_text(
-        out,
-        0,
-        b"Name=ZERO EndCoordinateSystem=ZERO X=0.000000 Y=0.000000 Z=0.000000 U=0.000000 V=0.000000 W=0.000000 Steps=0",
-    );
-    let j = put_text(
-        out,
-        i,
-        b" \nName=PI_BASE EndCoordinateSystem=HEXAPOD X=0.000000 Y=0.000000 Z=0.000000 U=0.000000 V=0.000000 W=0.000000 Steps=0",
-    );
-    put_text(
-        out,
-        j,
-        b" \nName=PI_LEVELLING EndCoordinateSystem=HEXAPOD X=0.000000 Y=0.000000 Z=0.000000 U=0.000000 V=0.000000 W=0.000000 Steps=0",
-    )
+    let a = put_fixed_resultant(out, 0, Group::Operating);
+    let b = put_text(out, a, b" \n");
+    let c = put_fixed_resultant(out, b, Group::Orientational);
+    let d = put_text(out, c, b" \n");
+    put_fixed_resultant(out, d, Group::Levelling)
 }
 
 pub fn put_resultant(
@@ -166,19 +171,4 @@ pub fn put_resultant(
     let e = put_six_values(out, d, t, r);
     let f = put_text(out, e, b" Steps=");
     put_decimal(out, f, steps as u64)
-}
-
-pub fn put_further_resultant(
-    part: &mut [u8],
-    name: Name,
-    g: Group,
-    t: Vec3,
-    r: Turns,
-    steps: u8,
-) -> usize
-    requires { ⌜ (name .len ≤ nameLimit) × Within reach t × Quarters r × (length (further (resultantText (bytesOf name) g t r steps)) ≤ length (now part)) ⌝ }
-    ensures { λ n. ⌜ Wrote (further (resultantText (bytesOf name) g t r steps)) (now (part .entry)) 0 (now (part .exit)) n ⌝ }
-{
-    let a = put_text(part, 0, b" \n");
-    put_resultant(part, a, name, g, t, r, steps)
 }

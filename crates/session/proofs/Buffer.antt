@@ -8,14 +8,15 @@ use mathlib.Core.Logic.{⊎-elim}
 use native.Mathlib.Omega.{arith}
 use lib.Dec.{eqb, ltb}
 use lib.ListN.{length, take, drop, length-append, length-drop}
-use borrow.Author.Tests.{le-ltb, lt-ltb, eqb-true}
+use borrow.Author.Tests.{le-ltb, lt-ltb, eqb-true, eqb-false, ne-eqb}
 use Rattle.model.proofs.Basics.{either}
+use Rattle.model.proofs.Refusing.{step-fine, step-ill, judged-taken, judged-refused, refusals-change-nothing}
 use Rattle.model.specs.Limits.{bufferLimit, lineLimit}
 use Rattle.model.specs.Memory.{State}
 use Rattle.model.specs.WellFormed.{wellFormed}
 use Rattle.model.specs.Request.{Reading, reading, unknown, malformed, beyond, asks}
 use Rattle.model.specs.Refusals.{refusal, ladder, short, first, unreadable, readingLadder}
-use Rattle.model.specs.Machine.{Outcome, stepped, judged, carriedOut, answered, refused}
+use Rattle.model.specs.Machine.{Outcome, stepped, judged, carriedOut, answered, refused, written}
 use Rattle.model.specs.Effects.{next, withError}
 use Rattle.model.specs.Reply.{reply, decimal}
 use Rattle.model.specs.Ascii.{ascii}
@@ -55,14 +56,6 @@ carried st (asks r) b c =
     let m = st .volatile in
     ap (λ (t : List ℕ). record { state = next st m r; text = t }) (printed-answered (next st m r) (reply st m r) b ∙ sym (printed-answered (next st m r) (reply st m r) c))
 
-judged-taken : (st : State) (n : ℕ) (l b : List ℕ) → eqb n 0 ≡ true → judged st n l b ≡ carriedOut st (reading l) b
-unfolding judged
-judged-taken st n l b h = rw (h, judged)
-
-judged-refused : (st : State) (n : ℕ) (l b : List ℕ) → eqb n 0 ≡ false → judged st n l b ≡ refused (withError st n) n b
-unfolding judged
-judged-refused st n l b h = rw (h, judged)
-
 pub printed-refused : (st : State) (n : ℕ) (b : List ℕ) → eqb n 0 ≡ false → printed (refused st n b) ≡ ascii "E " ++ (decimal n ++ ascii "\n")
 unfolding printed
 printed-refused st n b h = rw (h, printed)
@@ -75,14 +68,6 @@ judged-alike st n l k b c e =
     (λ h. rw (judged-refused st n l b h, judged-refused st n k c h, printed-refused (withError st n) n b h, printed-refused (withError st n) n c h) refl)
     (either (eqb n 0))
 
-stepped-fine : (st : State) (l b : List ℕ) → wellFormed st ≡ true → stepped st l b ≡ judged st (refusal st l b) l b
-unfolding stepped
-stepped-fine st l b h = rw (h, stepped)
-
-stepped-ill : (st : State) (l b : List ℕ) → wellFormed st ≡ false → stepped st l b ≡ refused st 1 b
-unfolding stepped
-stepped-ill st l b h = rw (h, stepped)
-
 -- ---- the two laws
 
 -- two lines of one number and one reading, with long buffers
@@ -90,8 +75,8 @@ alike : (st : State) (l k b c : List ℕ) → refusal st l b ≡ refusal st k c 
     seen (stepped st l b) ≡ seen (stepped st k c)
 alike st l k b c e r =
     ⊎-elim
-    (λ h. rw (stepped-fine st l b h, stepped-fine st k c h, e) (judged-alike st (refusal st k c) l k b c r))
-    (λ h. rw (stepped-ill st l b h, stepped-ill st k c h, printed-refused st 1 b refl, printed-refused st 1 c refl) refl)
+    (λ h. rw (step-fine st l b h, step-fine st k c h, e) (judged-alike st (refusal st k c) l k b c r))
+    (λ h. rw (step-ill st l b h, step-ill st k c h, printed-refused st 1 b refl, printed-refused st 1 c refl) refl)
     (either (wellFormed st))
 
 -- what the lent buffer holds does not show
@@ -134,6 +119,45 @@ judged-long st n l b =
 pub stays-long : (st : State) (l b : List ℕ) → length b ≤ length (stepped st l b .buffer)
 stays-long st l b =
     ⊎-elim
-    (λ h. rw (stepped-fine st l b h) (judged-long st (refusal st l b) l b))
-    (λ h. rw (stepped-ill st l b h) (omega arith))
+    (λ h. rw (step-fine st l b h) (judged-long st (refusal st l b) l b))
+    (λ h. rw (step-ill st l b h) (omega arith))
     (either (wellFormed st))
+
+-- ---- what an accepted line writes
+
+-- the text that is printed, from byte 0 on
+pub record Writes (o : Outcome) (b : List ℕ) : Type 0 where
+  pub count : o .count ≡ length (printed o)
+  pub buffer : o .buffer ≡ written (printed o) b
+
+answered-writes : (st : State) (t b : List ℕ) → Writes (answered st t b) b
+answered-writes st t b =
+    let e = printed-answered st t b in
+    record { count = ap length (sym e); buffer = ap (λ (u : List ℕ). written u b) (sym e) }
+
+carried-writes : (st : State) (r : Reading) (b : List ℕ) → Writes (carriedOut st r b) b
+unfolding carriedOut
+carried-writes st unknown b = answered-writes st [] b
+carried-writes st malformed b = answered-writes st [] b
+carried-writes st beyond b = answered-writes st [] b
+carried-writes st (asks r) b = answered-writes (next st (st .volatile) r) (reply st (st .volatile) r) b
+
+judged-writes : (st : State) (n : ℕ) (l b : List ℕ) → judged st n l b .number ≡ 0 → Writes (judged st n l b) b
+judged-writes st n l b z =
+    ⊎-elim
+    (λ h. rw (judged-taken st n l b h) (carried-writes st (reading l) b))
+    (λ h. absurd (eqb-false n 0 h (sym (ap (λ (o : Outcome). o .number) (judged-refused st n l b h)) ∙ z)))
+    (either (eqb n 0))
+
+pub taken-writes : (st : State) (l b : List ℕ) → stepped st l b .number ≡ 0 → Writes (stepped st l b) b
+taken-writes st l b z =
+    ⊎-elim
+    (λ h. let e = step-fine st l b h in rw e (judged-writes st (refusal st l b) l b (sym (ap (λ (o : Outcome). o .number) e) ∙ z)))
+    (λ h. absurd (omega (arith, z, ap (λ (o : Outcome). o .number) (step-ill st l b h))))
+    (either (wellFormed st))
+
+-- a refused line prints its number and writes nothing
+pub turned-down : (st : State) (l b : List ℕ) → (stepped st l b .number ≡ 0 → ⊥) →
+    (printed (stepped st l b) ≡ ascii "E " ++ (decimal (stepped st l b .number) ++ ascii "\n")) × (stepped st l b .buffer ≡ b)
+unfolding printed
+turned-down st l b n = (rw (ne-eqb (stepped st l b .number) 0 n, printed), refusals-change-nothing .lines st l b n .buffer)

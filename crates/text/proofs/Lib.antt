@@ -1,6 +1,10 @@
 pub mod Lists
 pub mod NameLaws
+pub mod NumberBytes
 pub mod NumberLaws
 pub mod NumberRange
+pub mod PairLaws
+pub mod PairWords
+pub mod Printed
 pub mod ValueLaws
 pub mod WordLaws

@@ -54,7 +54,7 @@ weight-next zero = refl
 weight-next (suc n) = rw (pow-suc 10 n) (omega arith)
 
 -- a decimal is added with its weight, or the digits so far are read on
-weigh : (base s d n : ℕ) → base + s * 10 ^ suc n + d * 10 ^ n ≡ base + (10 * s + d) * 10 ^ n
+pub weigh : (base s d n : ℕ) → base + s * 10 ^ suc n + d * 10 ^ n ≡ base + (10 * s + d) * 10 ^ n
 weigh base s d n =
     let p = 10 ^ n in
     let e : s * 10 ^ suc n ≡ 10 * s * p = ap (λ (q : ℕ). s * q) (pow-suc 10 n ∙ mul-comm p 10) ∙ sym (mul-assoc s 10 p) ∙ ap (λ (q : ℕ). q * p) (mul-comm s 10) in
@@ -108,7 +108,7 @@ module _ (g : Bool) (base : ℕ) where
 -- ---- the pieces around the points
 
 -- a word has no point, or it has further pieces and is not all digits
-data Cut (l : List ℕ) : Type 0 where
+pub data Cut (l : List ℕ) : Type 0 where
   whole : pieces 46 l ≡ l ∷ [] → Cut l
   more : (f h : List ℕ) (hs : List (List ℕ)) → pieces 46 l ≡ f ∷ h ∷ hs → all digit l ≡ false → Cut l
 
@@ -122,7 +122,7 @@ unfolding pieces ahead all
 cut-point b bs e (whole p) = more [] bs [] (rw (e, p)) (rw (eqb-true b 46 e))
 cut-point b bs e (more f h hs p q) = more [] f (h ∷ hs) (rw (e, p)) (rw (eqb-true b 46 e))
 
-cut : (l : List ℕ) → Cut l
+pub cut : (l : List ℕ) → Cut l
 unfolding pieces
 cut [] = whole refl
 cut (b ∷ bs) = ⊎-elim (λ e. cut-point b bs e (cut bs)) (λ e. cut-on b bs e (cut bs)) (either (eqb b 46))

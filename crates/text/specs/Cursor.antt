@@ -1,21 +1,22 @@
 -- Words of a line by a cursor. The laws in proofs/WordLaws.antt tie them to the words of document 01.
 use Prim.Native.Nat.{ℕ, suc, _+_, _-_, _≤_}
 use mathlib.Core.List.{List, [], _∷_, map}
-use mathlib.Core.Bool.{cond}
+use mathlib.Core.Bool.{Bool, true, false, cond, Bool·beq}
 use lib.Dec.{eqb}
 use lib.ListN.{length, take, drop}
 use Rattle.model.specs.Words.{words, upper}
 use Rattle.text.specs.declared.words.Word.{Word}
 
--- how many spaces stand first
-unfoldable pub blanks : List ℕ → ℕ
-blanks [] = 0
-blanks (b ∷ bs) = cond (eqb b 32) (suc (blanks bs)) 0
+-- how many bytes stand first that are spaces (true), or that are none (false)
+unfoldable pub lead : Bool → List ℕ → ℕ
+lead spaces [] = 0
+lead spaces (b ∷ bs) = cond (Bool·beq (eqb b 32) spaces) (suc (lead spaces bs)) 0
 
--- how many bytes other than space stand first
-unfoldable pub run : List ℕ → ℕ
-run [] = 0
-run (b ∷ bs) = cond (eqb b 32) 0 (suc (run bs))
+abbrev pub blanks : List ℕ → ℕ
+blanks l = lead true l
+
+abbrev pub run : List ℕ → ℕ
+run l = lead false l
 
 -- the next word from a place on; it is empty where none is left
 abbrev pub nextWord : List ℕ → ℕ → Word

@@ -1,4 +1,5 @@
 pub mod Cursor
 pub mod Names
 pub mod Numbers
+pub mod Pairs
 pub mod Values

@@ -79,7 +79,7 @@ pub fn read_name(line: &[u8], w: Word) -> NameRead
     }
 }
 
-fn same_bytes(a: &[u8], b: &[u8]) -> bool
+pub fn same_bytes(a: &[u8], b: &[u8]) -> bool
     ensures { λ r. ⌜ r ≡ same (now (a .entry)) (now (b .entry)) ⌝ }
 {
     let n = a.len();

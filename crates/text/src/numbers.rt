@@ -71,7 +71,7 @@ fn part_digit(minus: bool, v: u64, w: u64, b: u8) -> Num
 }
 
 // One byte on.
-pub fn step(n: Num, b: u8) -> Num
+pub(crate) fn step(n: Num, b: u8) -> Num
     requires { ⌜ Good n ⌝ }
     ensures { λ r. ⌜ r ≡ stepped n b ⌝ }
 {
@@ -98,7 +98,7 @@ pub fn step(n: Num, b: u8) -> Num
 }
 
 // Whether no further bytes make a number of it.
-pub fn is_wrong(n: Num) -> bool
+pub(crate) fn is_wrong(n: Num) -> bool
     ensures { λ r. ⌜ r ≡ wrong n ⌝ }
 {
     match n {
@@ -111,7 +111,7 @@ pub fn is_wrong(n: Num) -> bool
     }
 }
 
-pub fn value_of(n: Num) -> Value
+pub(crate) fn value_of(n: Num) -> Value
     requires { ⌜ Good n ⌝ }
     ensures { λ r. ⌜ optionOf r ≡ valued n ⌝ }
 {

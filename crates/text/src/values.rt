@@ -11,7 +11,7 @@ const OFFSET_LIMIT: u64 = 1000000000;
 // A quarter turn.
 const QUARTER_TURN: u64 = 90000000;
 
-pub fn signed(minus: bool, v: u64) -> i64
+pub(crate) fn signed(minus: bool, v: u64) -> i64
     requires { ⌜ v < 2 ^ 63 ⌝ }
     ensures { λ r. ⌜ r ≡ withSign minus v ⌝ }
 {

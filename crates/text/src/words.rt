@@ -5,7 +5,7 @@ ghost use lib.ListN.{length, drop};
 ghost use Rattle.model.specs.Lists as lists;
 ghost use Rattle.model.specs.Lists.{same};
 ghost use Rattle.model.specs.Words as model;
-ghost use Rattle.text.specs.Cursor.{blanks, run, nextWord, wordOf, Within};
+ghost use Rattle.text.specs.Cursor.{lead, nextWord, wordOf, Within};
 
 // The bytes of a word: from start to before end. None is left where the two are equal.
 pub struct Word {
@@ -13,7 +13,7 @@ pub struct Word {
     pub end: usize,
 }
 
-pub fn between(low: u8, high: u8, b: u8) -> bool
+pub(crate) fn between(low: u8, high: u8, b: u8) -> bool
     ensures { λ r. ⌜ r ≡ lists.between low high b ⌝ }
 {
     low <= b && b <= high
@@ -29,29 +29,14 @@ pub fn upper(b: u8) -> u8
     b
 }
 
-// Past the spaces at a place.
-pub fn past_spaces(line: &[u8], at: usize) -> usize
+// Past the spaces at a place, or past the other bytes.
+pub(crate) fn past(line: &[u8], at: usize, spaces: bool) -> usize
     requires { ⌜ at ≤ length (now line) ⌝ }
-    ensures { λ r. ⌜ r ≡ at + blanks (drop at (now (line .entry))) ⌝ }
+    ensures { λ r. ⌜ r ≡ at + lead spaces (drop at (now (line .entry))) ⌝ }
 {
     let mut i = at;
     while i < line.len() {
-        if line[i] != 32 {
-            return i;
-        }
-        i += 1;
-    }
-    i
-}
-
-// Past the other bytes at a place.
-fn past_word(line: &[u8], at: usize) -> usize
-    requires { ⌜ at ≤ length (now line) ⌝ }
-    ensures { λ r. ⌜ r ≡ at + run (drop at (now (line .entry))) ⌝ }
-{
-    let mut i = at;
-    while i < line.len() {
-        if line[i] == 32 {
+        if (line[i] == 32) != spaces {
             return i;
         }
         i += 1;
@@ -63,8 +48,8 @@ pub fn next_word(line: &[u8], at: usize) -> Word
     requires { ⌜ at ≤ length (now line) ⌝ }
     ensures { λ r. ⌜ r ≡ nextWord (now (line .entry)) at ⌝ }
 {
-    let start = past_spaces(line, at);
-    let end = past_word(line, start);
+    let start = past(line, at, true);
+    let end = past(line, start, false);
     Word { start, end }
 }
 

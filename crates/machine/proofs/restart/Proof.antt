@@ -4,8 +4,9 @@ use borrow.Author.Tests.{not-true, not-false}
 use Rattle.model.specs.declared.State.{State as StoredState}
 use Rattle.model.specs.Machine.{restart}
 use Rattle.model.specs.Stored.{viewOf, restartAnswer}
-use Rattle.machine.specs.Calls.{Fine, begunOf}
-use Rattle.machine.proofs.Views.{view-holds, shape-both, shape-parts, fine-of, ill-restart}
+use Rattle.engine.specs.Fine.{Fine}
+use Rattle.machine.specs.Calls.{begunOf}
+use Rattle.engine.proofs.Views.{view-holds, shape-both, shape-parts, fine-of, ill-restart}
 use borrow.Author.Needs.{needs}
 use Rattle.machine.proofs.restart.Statement.{statement}
 use Rattle.machine.proofs.restart.Tie as tie

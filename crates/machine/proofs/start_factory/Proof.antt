@@ -3,7 +3,7 @@ use mathlib.Core.Path.{_≡_, ap, _∙_}
 use Rattle.model.specs.declared.State.{State as StoredState}
 use Rattle.model.specs.Memory.{Memory, started}
 use Rattle.model.specs.Stored.{holds}
-use Rattle.machine.proofs.Views.{view-holds, shape-both}
+use Rattle.engine.proofs.Views.{view-holds, shape-both}
 use borrow.Author.Needs.{needs}
 use Rattle.machine.proofs.start_factory.Statement.{statement}
 use Rattle.machine.proofs.start_factory.Tie as tie

@@ -6,9 +6,9 @@ use lib.ListN.{length, take, length-map, length-set}
 use lib.Seq.{take-all}
 use Rattle.model.specs.Stored.{systemsOf}
 use Rattle.memory.specs.Codes.{codesOf}
-use Rattle.memory.proofs.Codes.{codeOf, code-at}
+use Rattle.memory.proofs.Codes.{codeOf}
 use Rattle.chains.proofs.Copies.{length-mapped}
-use Rattle.memory.proofs.Laws.{length-systems, system-at, filled-turn}
+use Rattle.memory.proofs.Laws.{mapped-at, length-systems, system-at, filled-turn}
 use Rattle.memory.proofs.kinds.kind_codes.Statement.{statement}
 use Rattle.memory.proofs.kinds.kind_codes.Tie as tie
 
@@ -53,7 +53,7 @@ loop-again c =
     let lt = c .before .before .loop-test .taken in
     let n = length-systems (s .args .t1) _ (long s) k in
     let hl : l .loop .i < length (codesOf (systemsOf (s .args .t1))) = rw (length-map (systemsOf (s .args .t1)) codeOf) (omega arith) in
-    let e = code-at (systemsOf (s .args .t1)) (l .loop .i) (omega arith) ∙ ap codeOf (system-at (s .args .t1) _ (long s) k (l .loop .i) lt) in
+    let e = mapped-at codeOf (systemsOf (s .args .t1)) (l .loop .i) (omega arith) ∙ ap codeOf (system-at (s .args .t1) _ (long s) k (l .loop .i) lt) in
     (omega arith, simp length-set (l .loop .inv .1), filled-turn (l .loop .codes) (codesOf (systemsOf (s .args .t1))) (l .loop .i) _ 0 (omega arith) hl (l .loop .inv .2) (c .code-of .ensures ∙ sym e))
 
 returns : tie.Need-returns Inv-loop μ-loop

@@ -1,90 +1,155 @@
+use Prim.Native.Nat.{ℕ, _+_, _-_, _≤_, _<_}
+use mathlib.Core.Path.{_≡_, ap, _∙_}
+use mathlib.Core.List.{List, _++_}
+use native.Mathlib.Omega.{arith}
+use lib.ListN.{length, getD, length-append}
+use Rattle.model.specs.Limits.{nameLimit}
+use Rattle.model.specs.Stored.{systemOf, memoryOf}
+use Rattle.model.specs.Request.{enabledOnes}
+use Rattle.model.specs.Reply.{listed}
+use Rattle.chains.proofs.Copies.{length-mapped, unset}
+use Rattle.print.proofs.Laws.{wrote-then}
+use Rattle.reply.specs.Types.{Operating, StoredSystem}
+use Rattle.reply.specs.Lines.{enabledText}
+use Rattle.reply.specs.EnabledText.{toolText, groupsText}
+use Rattle.reply.proofs.EnabledLaws.{first-within, tool-within, orientational-within, levelling-within, enabled-whole}
+use Rattle.reply.proofs.ListLaws.{replied}
+use Rattle.reply.proofs.ShortLaws.{listed-short}
+use Rattle.reply.proofs.StoredLaws.{few, name-fits}
 use borrow.Author.Needs.{needs}
 use Rattle.reply.proofs.enabled.enabled.Statement.{statement}
 use Rattle.reply.proofs.enabled.enabled.Tie as tie
-use Rattle.reply.proofs.enabled.enabled.Reads as reads
-use Rattle.reply.proofs.enabled.enabled.Lts as lts
-use Rattle.reply.proofs.enabled.first_place.Reads as first-place-reads
-use Rattle.reply.proofs.enabled.put_groups.Reads as put-groups-reads
-use Rattle.reply.proofs.enabled.put_tool.Reads as put-tool-reads
-use Rattle.reply.proofs.enabled.tool_place.Reads as tool-place-reads
-use Rattle.reply.proofs.lines.put_enabled.Reads as put-enabled-reads
-use Rattle.reply.proofs.slot.Reads as slot-reads
 
--- src/enabled.rt:80:9
+long : (s : tie.Start) → length (s .args .t1 .systems) ≡ 16
+long s = search (length-mapped, needs)
+
+-- ---- where every system is looked up
+
+abbrev at : tie.After-l → ℕ → StoredSystem
+at c i = getD (c .before .before .before .before .before .before .before .before .before .before .before .before .args .t1 .systems) i unset
+
+abbrev first : tie.After-l → List ℕ
+first c = enabledText Operating (c .before .before .before .before .before .before .before .before .before .first-place .result) (systemOf (at c (c .before .before .before .before .before .before .before .before .slot .result)))
+
+abbrev tool : tie.After-l → List ℕ
+tool c = toolText (c .before .before .before .before .before .before .before .before .before .before .before .before .args .t1 .enabled .operating) (systemOf (at c (c .before .before .before .before .before .before .slot2 .result)))
+
+abbrev groups : tie.After-l → List ℕ
+groups c = groupsText (c .before .before .before .before .before .before .before .before .before .before .before .before .args .t1 .enabled) (systemOf (at c (c .before .before .before .before .before .slot3 .result))) (systemOf (at c (c .before .before .before .before .slot4 .result)))
+
+whole : (c : tie.After-l) → listed (memoryOf (c .before .before .before .before .before .before .before .before .before .before .before .before .args .t1)) enabledOnes ≡ first c ++ (tool c ++ groups c)
+whole c =
+    let s = c .before .before .before .before .before .before .before .before .before .before .before .before in
+    rw (c .before .before .before .before .before .before .before .before .slot .ensures, c .before .before .before .before .before .before .slot2 .ensures, c .before .before .before .before .before .slot3 .ensures, c .before .before .before .before .slot4 .ensures, c .before .before .before .before .before .before .before .before .before .first-place .ensures, c .before .before .before .before .before .before .before .tool-place .ensures)
+    (enabled-whole (s .args .t1) (s .pre) (long s))
+
+fits : (c : tie.After-l) → length (first c) + (length (tool c) + length (groups c)) ≤ length (c .before .before .before .before .before .before .before .before .before .before .before .before .args .reply .now)
+fits c =
+    let s = c .before .before .before .before .before .before .before .before .before .before .before .before in
+    omega (arith, s .pre .room, listed-short (memoryOf (s .args .t1)) (s .pre .fine) enabledOnes, ap length (whole c), length-append (first c) (tool c ++ groups c), length-append (tool c) (groups c))
+
+-- the name of a user system at a place that is not beyond the count
+named : (c : tie.After-l) (p i : ℕ) → p ≤ c .before .before .before .before .before .before .before .before .before .before .before .before .args .t1 .count → i ≡ p - 1 → 0 < p → at c i .name .len ≤ nameLimit
+named c p i h e n = let s = c .before .before .before .before .before .before .before .before .before .before .before .before in name-fits (s .args .t1) (s .pre .shaped) (long s) i (omega arith)
+
+-- ---- the needs
+
 first-place-requires : tie.Need-first-place-requires
 first-place-requires c κs = search needs
 
--- src/enabled.rt:81:9
 slot-requires : tie.Need-slot-requires
 slot-requires c κs = search needs
 
--- src/enabled.rt:82:21
 tool-place-requires : tie.Need-tool-place-requires
 tool-place-requires c κs = search needs
 
--- src/enabled.rt:82:9
 slot-requires-2 : tie.Need-slot-requires-2
 slot-requires-2 c κs = search needs
 
--- src/enabled.rt:83:9
 slot-requires-3 : tie.Need-slot-requires-3
 slot-requires-3 c κs = search needs
 
--- src/enabled.rt:84:9
 slot-requires-4 : tie.Need-slot-requires-4
 slot-requires-4 c κs = search needs
 
--- src/enabled.rt:85:13
 mul-a : tie.Need-mul-a
 mul-a c = search needs
 
--- src/enabled.rt:85:13
 element-copy-out-a : tie.Need-element-copy-out-a
-element-copy-out-a c = ?
+element-copy-out-a c =
+    let s = c .before .before .before .before .before .before .before .before in
+    omega (arith, first-within (s .args .t1) (s .pre) (long s), few (s .args .t1) (s .pre .shaped) (long s), c .before .before .before .before .slot .ensures, c .before .before .before .before .before .first-place .ensures)
 
--- src/enabled.rt:86:13
 mul-b : tie.Need-mul-b
 mul-b c = search needs
 
--- src/enabled.rt:86:13
 element-copy-out-b : tie.Need-element-copy-out-b
-element-copy-out-b c = ?
+element-copy-out-b c =
+    let s = c .before .before .before .before .before .before .before .before .before in
+    omega (arith, tool-within (s .args .t1) (s .pre) (long s), few (s .args .t1) (s .pre .shaped) (long s), c .before .before .before .slot2 .ensures, c .before .before .before .before .tool-place .ensures)
 
--- src/enabled.rt:87:13
 mul-o : tie.Need-mul-o
 mul-o c = search needs
 
--- src/enabled.rt:87:13
 element-copy-out-o : tie.Need-element-copy-out-o
-element-copy-out-o c = ?
+element-copy-out-o c =
+    let s = c .before .before .before .before .before .before .before .before .before .before in
+    omega (arith, orientational-within (s .args .t1) (s .pre) (long s), few (s .args .t1) (s .pre .shaped) (long s), c .before .before .before .slot3 .ensures)
 
--- src/enabled.rt:88:13
 mul-l : tie.Need-mul-l
 mul-l c = search needs
 
--- src/enabled.rt:88:13
 element-copy-out-l : tie.Need-element-copy-out-l
-element-copy-out-l c = ?
+element-copy-out-l c =
+    let s = c .before .before .before .before .before .before .before .before .before .before .before in
+    omega (arith, levelling-within (s .args .t1) (s .pre) (long s), few (s .args .t1) (s .pre .shaped) (long s), c .before .before .before .slot4 .ensures)
 
--- src/enabled.rt:89:9
 put-enabled-requires : tie.Need-put-enabled-requires
-put-enabled-requires c κs = ?
+put-enabled-requires c κs =
+    let k = c .before in
+    let s = k .before .before .before .before .before .before .before .before .before .before .before .before in
+    let p = k .before .before .before .before .before .before .before .before .before .first-place in (
+      named k (p .result) (k .before .before .before .before .before .before .before .before .slot .result) (rw (p .ensures) (first-within (s .args .t1) (s .pre) (long s))) (k .before .before .before .before .before .before .before .before .slot .ensures),
+      omega (arith, fits k),
+    )
 
--- src/enabled.rt:90:9
 put-tool-requires : tie.Need-put-tool-requires
-put-tool-requires c κs = ?
+put-tool-requires c κs =
+    let w = c .before .before .before in
+    let k = w .before .before in
+    let s = k .before .before .before .before .before .before .before .before .before .before .before .before in (
+      named k _ (k .before .before .before .before .before .before .slot2 .result) (tool-within (s .args .t1) (s .pre) (long s)) (k .before .before .before .before .before .before .slot2 .ensures ∙ rw (k .before .before .before .before .before .before .before .tool-place .ensures)),
+      omega (arith, fits k, w .put-enabled .ensures .place, w .put-enabled .kept .0),
+    )
 
--- src/enabled.rt:91:5
 put-groups-requires : tie.Need-put-groups-requires
-put-groups-requires c κs = ?
+put-groups-requires c κs =
+    let t = c .before .before .before in
+    let w = t .before .before .before .before in
+    let k = w .before .before in
+    let s = k .before .before .before .before .before .before .before .before .before .before .before .before in (
+      record {
+        orientational-fits = named k _ (k .before .before .before .before .before .slot3 .result) (orientational-within (s .args .t1) (s .pre) (long s)) (k .before .before .before .before .before .slot3 .ensures);
+        levelling-fits = named k _ (k .before .before .before .before .slot4 .result) (levelling-within (s .args .t1) (s .pre) (long s)) (k .before .before .before .before .slot4 .ensures);
+      },
+      omega (arith, fits k, w .put-enabled .ensures .place, w .put-enabled .kept .0, t .put-tool .ensures .place, t .put-tool .kept .0),
+    )
 
--- src/enabled.rt:74:1
 same-length : tie.Need-same-length
-same-length c = search needs
+same-length c =
+    let g = c .before .before in
+    let t = g .before .before .before .before in
+    g .put-groups .kept .0 ∙ t .put-tool .kept .0 ∙ t .before .before .before .before .put-enabled .kept .0
 
--- src/enabled.rt:74:1
 returns : tie.Need-returns
-returns c = ?
+returns c =
+    let g = c .before .before in
+    let t = g .before .before .before .before in
+    let w = t .before .before .before .before in
+    let k = w .before .before in
+    let s = k .before .before .before .before .before .before .before .before .before .before .before .before in
+    replied (omega (arith, s .pre .room, listed-short (memoryOf (s .args .t1)) (s .pre .fine) enabledOnes))
+    (rw (whole k) (wrote-then (w .put-enabled .ensures) (wrote-then (t .put-tool .ensures) (g .put-groups .ensures))))
 
 pub enabled-spec : {M : Type 1} → statement M
 enabled-spec =

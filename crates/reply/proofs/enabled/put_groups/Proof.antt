@@ -1,77 +1,42 @@
+use native.Mathlib.Omega.{arith}
+use Rattle.model.specs.Stored.{systemOf}
+use Rattle.print.proofs.Laws.{wrote-then}
+use Rattle.reply.specs.EnabledText.{groupsText}
+use Rattle.reply.proofs.EnabledLaws.{length-groups}
 use borrow.Author.Needs.{needs}
 use Rattle.reply.proofs.enabled.put_groups.Statement.{statement}
 use Rattle.reply.proofs.enabled.put_groups.Tie as tie
-use Rattle.reply.proofs.enabled.put_groups.Reads as reads
-use Rattle.reply.proofs.enabled.put_groups.Lts as lts
-use Rattle.print.proofs.put_byte.Reads as put-byte-reads
-use Rattle.reply.proofs.lines.put_further_enabled.Reads as put-further-enabled-reads
 
--- src/enabled.rt:68:33
-sub-put-further-enabled : tie.Need-sub-put-further-enabled
-sub-put-further-enabled c = search needs
+put-next-requires : tie.Need-put-next-requires
+put-next-requires c κs =
+    let s = c .before .before in
+    (s .pre .0 .orientational-fits, omega (arith, s .pre .1, length-groups (s .args .e) (systemOf (s .args .o)) (systemOf (s .args .l))))
 
--- src/enabled.rt:68:33
-part-put-further-enabled-start : tie.Need-part-put-further-enabled-start
-part-put-further-enabled-start c = search needs
+put-next-requires-2 : tie.Need-put-next-requires-2
+put-next-requires-2 c κs =
+    let s = c .before .before .before .before .before .before in
+    let k = c .before .before .before in
+    (s .pre .0 .levelling-fits, omega (arith, s .pre .1, length-groups (s .args .e) (systemOf (s .args .o)) (systemOf (s .args .l)), k .put-next .ensures .place, k .put-next .kept .0))
 
--- src/enabled.rt:68:33
-part-put-further-enabled-end : tie.Need-part-put-further-enabled-end
-part-put-further-enabled-end c = search needs
-
--- src/enabled.rt:68:9
-put-further-enabled-requires : tie.Need-put-further-enabled-requires
-put-further-enabled-requires c κs = ?
-
--- src/enabled.rt:69:16
-add-next : tie.Need-add-next
-add-next c = ?
-
--- src/enabled.rt:70:36
-sub-put-further-enabled-2 : tie.Need-sub-put-further-enabled-2
-sub-put-further-enabled-2 c = ?
-
--- src/enabled.rt:70:36
-part-put-further-enabled-start-2 : tie.Need-part-put-further-enabled-start-2
-part-put-further-enabled-start-2 c = ?
-
--- src/enabled.rt:70:36
-part-put-further-enabled-end-2 : tie.Need-part-put-further-enabled-end-2
-part-put-further-enabled-end-2 c = search needs
-
--- src/enabled.rt:70:9
-put-further-enabled-requires-2 : tie.Need-put-further-enabled-requires-2
-put-further-enabled-requires-2 c κs = ?
-
--- src/enabled.rt:71:21
-add-put-byte : tie.Need-add-put-byte
-add-put-byte c = ?
-
--- src/enabled.rt:71:5
 put-byte-requires : tie.Need-put-byte-requires
-put-byte-requires c κs = ?
+put-byte-requires c κs =
+    let s = c .before .before .before .before .before .before .before .before .before .before in
+    let j = c .before .before .before in
+    let k = j .before .before .before .before in
+    omega (arith, s .pre .1, length-groups (s .args .e) (systemOf (s .args .o)) (systemOf (s .args .l)), k .put-next .ensures .place, k .put-next .kept .0, j .put-next2 .ensures .place, j .put-next2 .kept .0)
 
--- src/enabled.rt:64:1
 same-length : tie.Need-same-length
 same-length c = search needs
 
--- src/enabled.rt:64:1
 returns : tie.Need-returns
-returns c = ?
+unfolding groupsText
+returns c =
+    let e = c .before .before in
+    let j = e .before .before .before .before in
+    let k = j .before .before .before .before in
+    wrote-then (k .put-next .ensures) (wrote-then (j .put-next2 .ensures) (e .put-byte .ensures))
 
 pub put-groups-spec : {M : Type 1} → statement M
 put-groups-spec =
     tie.close
-    (tie.spec
-    sub-put-further-enabled
-    part-put-further-enabled-start
-    part-put-further-enabled-end
-    put-further-enabled-requires
-    add-next
-    sub-put-further-enabled-2
-    part-put-further-enabled-start-2
-    part-put-further-enabled-end-2
-    put-further-enabled-requires-2
-    add-put-byte
-    put-byte-requires
-    same-length
-    returns)
+    (tie.spec put-next-requires put-next-requires-2 put-byte-requires same-length returns)

@@ -1,63 +1,47 @@
+use mathlib.Core.Path.{_≡_, sym, _∙_}
+use mathlib.Core.List.{[]}
+use borrow.Author.Tests.{not-true, not-false}
+use Rattle.model.specs.Stored.{systemOf}
+use Rattle.print.proofs.Laws.{wrote-none}
+use Rattle.reply.specs.Types.{Operating}
+use Rattle.reply.specs.Lines.{further, enabledText}
+use Rattle.reply.specs.EnabledText.{toolText}
+use Rattle.reply.proofs.EnabledLaws.{tool-none, tool-line}
 use borrow.Author.Needs.{needs}
 use Rattle.reply.proofs.enabled.put_tool.Statement.{statement}
 use Rattle.reply.proofs.enabled.put_tool.Tie as tie
-use Rattle.reply.proofs.enabled.put_tool.Reads as reads
-use Rattle.reply.proofs.enabled.put_tool.Lts as lts
-use Rattle.reply.proofs.enabled.is_pair.Reads as is-pair-reads
-use Rattle.reply.proofs.enabled.tool_place.Reads as tool-place-reads
-use Rattle.reply.proofs.lines.put_further_enabled.Reads as put-further-enabled-reads
 
--- src/enabled.rt:55:9
+none : (c : tie.Then1) → toolText (c .before .before .before .args .part) (systemOf (c .before .before .before .args .s)) ≡ []
+none c = tool-none (c .before .before .before .args .part) (systemOf (c .before .before .before .args .s)) (sym (c .before .is-pair .ensures) ∙ not-true _ (c .if1 .taken))
+
+line : (c : tie.After-tool-place) → toolText (c .before .before .before .before .args .part) (systemOf (c .before .before .before .before .args .s)) ≡ further (enabledText Operating (c .tool-place .result) (systemOf (c .before .before .before .before .args .s)))
+line c =
+    let s = c .before .before .before .before in
+    let e = sym (c .before .before .is-pair .ensures) ∙ not-false _ (c .before .if1 .left) in
+    rw (c .tool-place .ensures) (tool-line (s .args .part) (systemOf (s .args .s)) e)
+
 is-pair-requires : tie.Need-is-pair-requires
 is-pair-requires c κs = search needs
 
--- src/enabled.rt:56:9
 returns : tie.Need-returns
-returns c = ?
+returns c = rw (none c) (wrote-none _ _)
 
--- src/enabled.rt:58:9
 tool-place-requires : tie.Need-tool-place-requires
 tool-place-requires c κs = search needs
 
--- src/enabled.rt:59:33
-sub-put-further-enabled : tie.Need-sub-put-further-enabled
-sub-put-further-enabled c = search needs
+put-next-requires : tie.Need-put-next-requires
+put-next-requires c κs =
+    let t = c .before in
+    let s = c .before .before .before .before .before in
+    (rw (t .tool-place .ensures) (s .pre .0), rw (line t) at (s .pre .1))
 
--- src/enabled.rt:59:33
-part-put-further-enabled-start : tie.Need-part-put-further-enabled-start
-part-put-further-enabled-start c = search needs
-
--- src/enabled.rt:59:33
-part-put-further-enabled-end : tie.Need-part-put-further-enabled-end
-part-put-further-enabled-end c = search needs
-
--- src/enabled.rt:59:9
-put-further-enabled-requires : tie.Need-put-further-enabled-requires
-put-further-enabled-requires c κs = ?
-
--- src/enabled.rt:60:5
-add-result : tie.Need-add-result
-add-result c = ?
-
--- src/enabled.rt:51:1
 same-length : tie.Need-same-length
 same-length c = search needs
 
--- src/enabled.rt:51:1
 returns-2 : tie.Need-returns-2
-returns-2 c = ?
+returns-2 c = let k = c .before .before in rw (line (k .before .before)) (k .put-next .ensures)
 
 pub put-tool-spec : {M : Type 1} → statement M
 put-tool-spec =
     tie.close
-    (tie.spec
-    is-pair-requires
-    returns
-    tool-place-requires
-    sub-put-further-enabled
-    part-put-further-enabled-start
-    part-put-further-enabled-end
-    put-further-enabled-requires
-    add-result
-    same-length
-    returns-2)
+    (tie.spec is-pair-requires returns tool-place-requires put-next-requires same-length returns-2)

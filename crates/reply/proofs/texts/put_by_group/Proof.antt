@@ -1,4 +1,3 @@
-use native.Mathlib.Omega.{arith}
 use borrow.Author.Needs.{needs}
 use Rattle.reply.proofs.texts.put_by_group.Statement.{statement}
 use Rattle.reply.proofs.texts.put_by_group.Tie as tie

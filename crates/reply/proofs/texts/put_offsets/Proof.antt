@@ -1,10 +1,7 @@
-use Prim.Native.Nat.{_<_, _^_}
 use mathlib.Core.Path.{_≡_}
 use native.Mathlib.Omega.{arith}
-use lib.ListN.{length, length-append}
 use mir.Syntax.{w64}
 use mir.Val.{toZ, ofZ}
-use Rattle.model.specs.Reply.{value}
 use Rattle.print.proofs.Laws.{wrote-then}
 use Rattle.pose.proofs.Signed.{back}
 use Rattle.reply.specs.Values.{offsetsText}

@@ -1,20 +1,21 @@
+use mathlib.Core.Bool.{true}
 use native.Mathlib.Omega.{arith}
 use borrow.Author.Needs.{needs}
 use lib.ListN.{drop, length-drop}
-use Rattle.text.proofs.WordLaws.{blanks-le}
+use Rattle.text.proofs.WordLaws.{lead-le}
 use Rattle.text.proofs.words.next_word.Statement.{statement}
 use Rattle.text.proofs.words.next_word.Tie as tie
 
-past-spaces-requires : tie.Need-past-spaces-requires
-past-spaces-requires c κs = search needs
+past-requires : tie.Need-past-requires
+past-requires c κs = search needs
 
-past-word-requires : tie.Need-past-word-requires
-past-word-requires c κs =
+past-requires-2 : tie.Need-past-requires-2
+past-requires-2 c κs =
     let a = c .before .before .args in
-    omega (arith, blanks-le (drop (a .at) (a .line .now)), length-drop (a .at) (a .line .now))
+    omega (arith, lead-le true (drop (a .at) (a .line .now)), length-drop (a .at) (a .line .now))
 
 returns : tie.Need-returns
-returns c = rw (c .past-word .ensures, c .before .past-spaces .ensures)
+returns c = rw (c .past2 .ensures, c .before .past .ensures)
 
 pub next-word-spec : {M : Type 1} → statement M
-next-word-spec = tie.close (tie.spec past-spaces-requires past-word-requires returns)
+next-word-spec = tie.close (tie.spec past-requires past-requires-2 returns)

@@ -1,0 +1,117 @@
+-- What a change gives, by its number, and what a ladder that was passed says of the places.
+use Prim.Native.Nat.{ℕ, _<_, _≤_}
+use mathlib.Core.Path.{_≡_, refl, sym, ap, _∙_}
+use mathlib.Core.Bool.{Bool, true, false}
+use mathlib.Core.List.{List, [], _∷_}
+use native.Mathlib.Omega.{arith}
+use borrow.Author.Tests.{eq-eqb, ne-eqb, leb-false}
+use lib.Dec.{eqb}
+use lib.ListN.{length}
+use Rattle.model.specs.declared.Kind.{Kind}
+use Rattle.model.specs.declared.Vec3.{Vec3}
+use Rattle.model.specs.declared.Turns.{Turns}
+use Rattle.model.specs.declared.Memory.{Memory as StoredMemory}
+use Rattle.model.specs.declared.State.{State as StoredState}
+use Rattle.model.specs.Memory.{Memory, State, isUser, placeNamed}
+use Rattle.model.specs.Request.{Change, define, link, copy, remove}
+use Rattle.model.specs.Refusals.{Rung, first, changeLadder, absent, noRoom}
+use Rattle.model.specs.Effects.{put, fresh, changed}
+use Rattle.model.specs.Stored.{systemsOf, memoryOf, memoryShaped, shaped}
+use Rattle.model.proofs.Basics.{and-split, or-false}
+use Rattle.model.proofs.Named.{place-within, present-user}
+use Rattle.memory.specs.Put.{putAt}
+use Rattle.memory.proofs.ByName.{put-by-place}
+use Rattle.memory.proofs.Laws.{length-systems}
+use Rattle.commands.specs.Given.{given, givenBy, accepts, refuses}
+use Rattle.commands.proofs.Asked.{full-count}
+
+-- ---- the number decides
+
+module _ (st : State) (c : Change) (n : ℕ) (e : n ≡ first (changeLadder st (st .volatile) c)) where
+  pub given-refused : (n ≡ 0 → ⊥) → given st c ≡ refuses st n
+  unfolding given givenBy
+  given-refused z = ap (givenBy st c) (sym e) ∙ rw (ne-eqb n 0 z, givenBy)
+
+  pub given-accepted : n ≡ 0 → given st c ≡ accepts (changed st (st .volatile) c)
+  unfolding given givenBy
+  given-accepted z = ap (givenBy st c) (sym e) ∙ rw (eq-eqb n 0 z, givenBy)
+
+-- a ladder that gives 0: its first number does not apply, nor does any later one
+passed : (n : ℕ) (t : Bool) (rs : List Rung) → 0 < n → first ((n, t) ∷ rs) ≡ 0 → (t ≡ false) × (first rs ≡ 0)
+unfolding first
+passed n true rs h e = absurd (omega arith)
+passed n false rs h e = (refl, e)
+
+-- the only number of RPA and DPA
+module _ (level : ℕ) where
+  pub level-locked : level ≡ 0 → 9 ≡ first ((9, eqb level 0) ∷ [])
+  unfolding first
+  level-locked e = rw (eq-eqb level 0 e, first)
+
+  pub level-open : (level ≡ 0 → ⊥) → 0 ≡ first ((9, eqb level 0) ∷ [])
+  unfolding first
+  level-open e = rw (ne-eqb level 0 e, first)
+
+-- ---- the places of a change that is accepted
+
+module _ (st : State) (m : Memory) where
+  -- what is linked is a user system
+  pub link-user : (a b : List ℕ) → first (changeLadder st m (link a b)) ≡ 0 → isUser m a ≡ true
+  unfolding changeLadder
+  link-user a b e =
+      let p = passed 7 _ _ (omega arith) e in
+      let q = passed 8 _ _ (omega arith) (p .1) in
+      present-user m a (or-false (absent m a) (absent m b) (p .0) .0) (q .0)
+
+  -- what is removed is a user system
+  pub remove-user : (a : List ℕ) → first (changeLadder st m (remove a)) ≡ 0 → isUser m a ≡ true
+  unfolding changeLadder
+  remove-user a e =
+      let p = passed 7 _ _ (omega arith) e in
+      let q = passed 8 _ _ (omega arith) (p .1) in
+      present-user m a (p .0) (q .0)
+
+  pub define-room : (k : Kind) (n : List ℕ) (t : Vec3) (u : Turns) → first (changeLadder st m (define k n t u)) ≡ 0 → noRoom m n ≡ false
+  unfolding changeLadder
+  define-room k n t u e =
+      let p = passed 8 _ _ (omega arith) e in
+      let q = passed 9 _ _ (omega arith) (p .1) in
+      let r = passed 10 _ _ (omega arith) (q .1) in
+      let s = passed 11 _ _ (omega arith) (r .1) in
+      passed 13 _ _ (omega arith) (s .1) .0
+
+  pub copy-room : (s d : List ℕ) → first (changeLadder st m (copy s d)) ≡ 0 → noRoom m d ≡ false
+  unfolding changeLadder
+  copy-room s d e =
+      let p = passed 7 _ _ (omega arith) e in
+      let q = passed 8 _ _ (omega arith) (p .1) in
+      let r = passed 9 _ _ (omega arith) (q .1) in
+      let t = passed 10 _ _ (omega arith) (r .1) in
+      let u = passed 11 _ _ (omega arith) (t .1) in
+      let v = passed 12 _ _ (omega arith) (u .1) in
+      passed 13 _ _ (omega arith) (v .1) .0
+
+-- a stored memory has 16 places, and one is free for a new name that passed number 13
+module _ (m : StoredMemory) (long : length (m .systems) ≡ 16) (n : List ℕ) where
+  pub place-few : placeNamed (systemsOf m) n ≤ 16
+  place-few = omega (arith, place-within (systemsOf m) n, length-systems m _ long refl)
+
+  pub room : noRoom (memoryOf m) n ≡ false → placeNamed (systemsOf m) n ≡ 0 → m .count < 16
+  unfolding noRoom isUser
+  room e z = leb-false 16 (m .count) (full-count m long ∙ (rw z at e))
+
+-- a definition is put at the place of its name
+pub defined-by-place : (m : Memory) (k : Kind) (n : List ℕ) (t : Vec3) (u : Turns) → put m (fresh m k n t u) ≡ putAt m (placeNamed (m .systems) n) (fresh m k n t u)
+unfolding fresh
+defined-by-place m k n t u = put-by-place m (fresh m k n t u)
+
+-- ---- shape
+
+module _ (s : StoredState) (h : shaped s ≡ true) where
+  pub volatile-shaped : memoryShaped (s .volatile) ≡ true
+  unfolding shaped
+  volatile-shaped = and-split (memoryShaped (s .volatile)) (memoryShaped (s .permanent)) h .0
+
+  pub permanent-shaped : memoryShaped (s .permanent) ≡ true
+  unfolding shaped
+  permanent-shaped = and-split (memoryShaped (s .volatile)) (memoryShaped (s .permanent)) h .1

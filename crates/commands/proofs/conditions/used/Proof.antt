@@ -1,0 +1,17 @@
+use native.Mathlib.Omega.{arith}
+use borrow.Author.Tests.{lt-ltb}
+use borrow.Author.Needs.{needs}
+use Rattle.commands.proofs.conditions.used.Statement.{statement}
+use Rattle.commands.proofs.conditions.used.Tie as tie
+
+returns : tie.Need-returns
+returns c = rw (c .if1 .taken)
+
+in-use-requires : tie.Need-in-use-requires
+in-use-requires c κs = search needs
+
+returns-2 : tie.Need-returns-2
+returns-2 c = rw (lt-ltb 0 (c .before .before .before .args .place) (omega arith)) (c .in-use .ensures)
+
+pub used-spec : {M : Type 1} → statement M
+used-spec = tie.close (tie.spec returns in-use-requires returns-2)

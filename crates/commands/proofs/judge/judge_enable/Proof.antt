@@ -1,0 +1,25 @@
+use mathlib.Core.Path.{_∙_}
+use mathlib.Core.List.{[], _∷_}
+use borrow.Author.Needs.{needs}
+use Rattle.model.specs.Refusals.{first, changeLadder}
+use Rattle.model.specs.Stored.{memoryOf}
+use Rattle.commands.proofs.Asked.{locked-is}
+use Rattle.commands.proofs.judge.judge_enable.Statement.{statement}
+use Rattle.commands.proofs.judge.judge_enable.Tie as tie
+
+locked-requires : tie.Need-locked-requires
+locked-requires c κs = search needs
+
+first-number-requires : tie.Need-first-number-requires
+first-number-requires c κs = search needs
+
+returns : tie.Need-returns
+unfolding changeLadder first
+returns c =
+    λ x tx st e.
+    let a = c .before .before .args in
+    let lock = c .before .locked .ensures ∙ locked-is (memoryOf (a .m)) x (a .a) tx st (a .level) e in
+    c .first-number .ensures ∙ (λ i. first ((7, tx .absent-is i) ∷ (9, lock i) ∷ []))
+
+pub judge-enable-spec : {M : Type 1} → statement M
+judge-enable-spec = tie.close (tie.spec locked-requires first-number-requires returns)

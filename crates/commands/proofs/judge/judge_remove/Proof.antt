@@ -1,0 +1,31 @@
+use mathlib.Core.Path.{_∙_}
+use mathlib.Core.List.{[], _∷_}
+use borrow.Author.Needs.{needs}
+use Rattle.model.specs.Refusals.{first, changeLadder}
+use Rattle.model.specs.Stored.{memoryOf}
+use Rattle.commands.proofs.Asked.{locked-is, used-is}
+use Rattle.commands.proofs.judge.judge_remove.Statement.{statement}
+use Rattle.commands.proofs.judge.judge_remove.Tie as tie
+
+locked-requires : tie.Need-locked-requires
+locked-requires c κs = search needs
+
+used-in-requires : tie.Need-used-in-requires
+used-in-requires c κs = search needs
+
+first-number-requires : tie.Need-first-number-requires
+first-number-requires c κs = search needs
+
+returns : tie.Need-returns
+unfolding changeLadder first
+returns c =
+    λ x tx st e.
+    let a = c .before .before .before .args in
+    let m = memoryOf (a .m) in
+    let lock = c .before .before .locked .ensures ∙ locked-is m x (a .a) tx st (a .level) e in
+    let used = c .before .used-in .ensures ∙ used-is m x (a .a) tx in
+    c .first-number .ensures ∙ (λ i. first ((7, tx .absent-is i) ∷ (8, tx .reserved-is i) ∷ (9, lock i) ∷ (11, used i) ∷ []))
+
+pub judge-remove-spec : {M : Type 1} → statement M
+judge-remove-spec =
+    tie.close (tie.spec locked-requires used-in-requires first-number-requires returns)

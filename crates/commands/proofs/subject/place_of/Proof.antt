@@ -1,0 +1,28 @@
+use borrow.Author.Needs.{needs}
+use Rattle.memory.specs.Found.{foundPlace}
+use Rattle.commands.proofs.subject.place_of.Statement.{statement}
+use Rattle.commands.proofs.subject.place_of.Tie as tie
+
+enum-known-f : tie.Need-enum-known-f
+enum-known-f c = search needs
+
+enum-told : tie.Need-enum-told
+enum-told c = search needs
+
+enum-told-2 : tie.Need-enum-told-2
+enum-told-2 c = search needs
+
+returns : tie.Need-returns
+unfolding foundPlace
+returns c = rw (c .before .f .given .1)
+
+returns-2 : tie.Need-returns-2
+unfolding foundPlace
+returns-2 c = rw (c .enum-told .given .1)
+
+returns-3 : tie.Need-returns-3
+unfolding foundPlace
+returns-3 c = rw (c .enum-told2 .given .1)
+
+pub place-of-spec : {M : Type 1} → statement M
+place-of-spec = tie.close (tie.spec enum-known-f enum-told enum-told-2 returns returns-2 returns-3)

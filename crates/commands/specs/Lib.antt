@@ -1,0 +1,4 @@
+pub mod Given
+pub mod Rungs
+pub mod Subject
+pub mod Conditions

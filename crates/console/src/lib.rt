@@ -1,0 +1,70 @@
+// ksrun at a terminal or in a pipe: every complete line is answered before more input is waited for.
+use session::feed::Session;
+use session::feed::begin;
+use session::feed::feed;
+use session::feed::finish;
+ghost use Prim.Native.Nat.{_≤_};
+ghost use lib.ListN.{length};
+ghost use Rattle.model.specs.Limits.{bufferLimit};
+ghost use Rattle.engine.specs.Fine.{Fine};
+ghost use Rattle.session.specs.Feed.{enough};
+
+const INPUT: i32 = 0;
+
+const OUTPUT: i32 = 1;
+
+const ERRORS: i32 = 2;
+
+// What a block left: the session, and whether its answers could be written.
+struct Served {
+    session: Session,
+    ok: bool,
+}
+
+// A block is fed until all of it is used; the answers are written as the buffer fills, and at the end.
+fn serve(s: Session, block: &[u8], out: &mut [u8]) -> Served
+    requires { ⌜ Fine (s .state) × (s .held .count ≤ enough) ⌝ }
+    requires { ⌜ bufferLimit ≤ length (now out) ⌝ }
+    ensures { λ r. ⌜ Fine (r .session .state) × (r .session .held .count ≤ enough) ⌝ }
+{
+    let mut session = s;
+    let mut at = 0;
+    while at < block.len() {
+        let f = feed(session, &block[at..], out);
+        session = f.session;
+        at += f.used;
+        let written = f.written;
+        if !io::write_all(OUTPUT, &out[..written]) {
+            return Served { session, ok: false };
+        }
+    }
+    Served { session, ok: true }
+}
+
+// Blocks are read and served to the end of the input. A read or a write that fails ends the session, with a word on standard error.
+pub fn run() {
+    let mut input = io::large_buffer();
+    let mut output = io::large_buffer();
+    let mut session = begin();
+    let mut turns: u64 = 18446744073709551615;
+    while 0 < turns {
+        let got = libc::read(INPUT, &mut input);
+        if got < 0 {
+            io::write_all(ERRORS, b"ksrun: standard input cannot be read\n");
+            return;
+        }
+        let n = io::count(got, &input);
+        if n == 0 {
+            break;
+        }
+        let served = serve(session, &input[..n], &mut output);
+        if !served.ok {
+            io::write_all(ERRORS, b"ksrun: standard output cannot be written\n");
+            return;
+        }
+        session = served.session;
+        turns -= 1;
+    }
+    let n = finish(session, &mut output);
+    io::write_all(OUTPUT, &output[..n]);
+}

@@ -1,0 +1,70 @@
+-- Laws of stored states and what they stand for: where a state stands for one of the machine, and where a call is refused with 1.
+use Prim.Native.Nat.{ℕ}
+use mathlib.Core.Path.{_≡_, refl, sym, ap, _∙_}
+use mathlib.Core.List.{List}
+use mathlib.Core.Bool.{Bool, true, false, _&&_}
+use mathlib.Core.Logic.{⊎-elim}
+use Rattle.model.specs.declared.State.{State as StoredState}
+use Rattle.model.specs.Memory.{State}
+use Rattle.model.specs.WellFormed.{wellFormed}
+use Rattle.model.specs.Machine.{stepped, restart, writeImage, refused, began}
+use Rattle.model.specs.Stored.{View, holds, shapeless, Answered, Restarted, ofOutcome, ofBegun, memoryShaped, shaped, stateOf, viewOf, lineAnswer, imageAnswer, restartAnswer}
+use Rattle.model.proofs.Basics.{and-join, and-split, either}
+use Rattle.model.proofs.Refusing.{step-ill}
+use Rattle.model.proofs.Exact.{other-numbers-exact}
+use Rattle.engine.specs.declared.answer.Stepped.{Stepped}
+use Rattle.engine.specs.Fine.{Fine, answeredOf}
+
+pub view-holds : (s : StoredState) → shaped s ≡ true → viewOf s ≡ holds (stateOf s)
+unfolding viewOf
+view-holds s e = rw (e, viewOf)
+
+pub view-shapeless : (s : StoredState) → shaped s ≡ false → viewOf s ≡ shapeless s
+unfolding viewOf
+view-shapeless s e = rw (e, viewOf)
+
+pub shape-both : (s : StoredState) → memoryShaped (s .volatile) ≡ true → memoryShaped (s .permanent) ≡ true → shaped s ≡ true
+unfolding shaped
+shape-both s v p = and-join v p
+
+pub shape-parts : (s : StoredState) → shaped s ≡ true → (memoryShaped (s .volatile) ≡ true) × (memoryShaped (s .permanent) ≡ true)
+unfolding shaped
+shape-parts s e = and-split (memoryShaped (s .volatile)) (memoryShaped (s .permanent)) e
+
+pub fine-of : (s : StoredState) → shaped s && wellFormed (stateOf s) ≡ true → Fine s
+fine-of s e = let p = and-split (shaped s) (wellFormed (stateOf s)) e in record { shape = p .0; formed = p .1 }
+
+-- ---- a state that is not well formed: with 1, and all as it was
+
+module _ (s : StoredState) (ill : shaped s && wellFormed (stateOf s) ≡ false) where
+  -- by shape, or by what it stands for
+  parted : {A : Type 0} → (shaped s ≡ false → A) → (shaped s ≡ true → wellFormed (stateOf s) ≡ false → A) → A
+  parted f g = ⊎-elim (λ e. g e (rw e at ill)) f (either (shaped s))
+
+  pub ill-restart : restartAnswer (viewOf s) ≡ record { state = viewOf s; number = 1 }
+  unfolding restartAnswer
+  ill-restart =
+      parted
+      (λ e. rw (view-shapeless s e) refl)
+      (λ e w. rw (view-holds s e) (ap ofBegun (other-numbers-exact .restart-one (stateOf s) w)))
+
+  pub ill-line : (l b : List ℕ) → lineAnswer (viewOf s) l b ≡ record { state = viewOf s; number = 1; count = 0; buffer = b }
+  unfolding lineAnswer
+  ill-line l b =
+      parted
+      (λ e. rw (view-shapeless s e) refl)
+      (λ e w. rw (view-holds s e) (ap ofOutcome (step-ill (stateOf s) l b w)))
+
+  pub ill-image : (b : List ℕ) → imageAnswer (viewOf s) b ≡ record { state = viewOf s; number = 1; count = 0; buffer = b }
+  unfolding imageAnswer
+  ill-image b =
+      parted
+      (λ e. rw (view-shapeless s e) refl)
+      (λ e w. rw (view-holds s e) (ap ofOutcome (other-numbers-exact .image-one (stateOf s) b w)))
+
+-- ---- answers
+
+-- an answer whose state has shape
+pub answer-holds : (r : Stepped) (b : List ℕ) → shaped (r .state) ≡ true →
+    answeredOf r b ≡ ofOutcome (record { state = stateOf (r .state); number = r .number; count = r .length; buffer = b })
+answer-holds r b e = rw (view-holds (r .state) e) refl

@@ -1,0 +1,2 @@
+pub mod Obeyed
+pub mod Fine

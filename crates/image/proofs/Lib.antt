@@ -1,0 +1,15 @@
+pub mod Shortest
+pub mod Several
+pub mod Turns
+pub mod StrictSystem
+pub mod Exact
+pub mod Answering
+pub mod NumberLaws
+pub mod NameLaws
+pub mod SystemSteps
+pub mod EnabledSteps
+pub mod MemorySteps
+pub mod Puts
+pub mod SystemPuts
+pub mod MemoryPuts
+pub mod Signs

@@ -1,0 +1,23 @@
+-- What the name of a length at a place is.
+use Prim.Native.Nat.{ℕ, _+_, _-_, _≤_, _<_}
+use mathlib.Core.Path.{_≡_}
+use mathlib.Core.List.{List}
+use mathlib.Core.Option.{none, some}
+use lib.ListN.{length, take, drop, length-drop}
+use lib.Seq.{drop-drop}
+use borrow.Author.Tests.{le-leb, lt-leb}
+use Rattle.model.specs.Image.{readBytes, fail}
+use Rattle.image.specs.Strict.{strictName}
+
+module _ (bs : List ℕ) (at n : ℕ) where
+  pub name-long : 16 < n → none ≡ strictName n (drop at bs)
+  unfolding strictName fail
+  name-long h = rw (lt-leb n 16 h)
+
+  pub name-beyond : n ≤ 16 → length bs - at < n → none ≡ strictName n (drop at bs)
+  unfolding strictName readBytes
+  name-beyond h g = rw (le-leb n 16 h, length-drop at bs, lt-leb n (length bs - at) g)
+
+  pub name-there : n ≤ 16 → n ≤ length bs - at → some (take n (drop at bs), drop (at + n) bs) ≡ strictName n (drop at bs)
+  unfolding strictName readBytes
+  name-there h g = rw (le-leb n 16 h, length-drop at bs, le-leb n (length bs - at) g, drop-drop n at bs)

@@ -1,0 +1,109 @@
+use Prim.Native.Nat.{ℕ, _+_, _≤_}
+use mathlib.Core.Path.{_≡_}
+use mathlib.Core.List.{List, [], _∷_, _++_}
+use native.Mathlib.Omega.{arith}
+use lib.ListN.{length}
+use Rattle.model.specs.Image.{whole, numbers, enabledBytes}
+use Rattle.image.proofs.Puts.{Left, left-all, left-put, left-fits, left-done, put-long}
+use Rattle.image.proofs.EnabledSteps.{single-bytes, pair-bytes}
+use borrow.Author.Needs.{needs}
+use Rattle.image.proofs.enabled.write_enabled.Statement.{statement}
+use Rattle.image.proofs.enabled.write_enabled.Tie as tie
+
+is-single : (c : tie.After-operating) → (
+    let e = c .before .before .before .before .before .args .e in
+    enabledBytes e ≡ numbers (0 ∷ c .operating .given .0 .0 ∷ e .orientational ∷ e .levelling ∷ [])
+    )
+is-single c = single-bytes (c .before .before .before .before .before .args .e) (c .operating .given .0 .0) (c .operating .given .1)
+
+-- a pair: what is left after its first number
+module _ (c : tie.After-operating2) where
+  abbrev start : tie.Start
+  start = c .before .before .before .before .before
+
+  abbrev four : List ℕ
+  four = numbers (c .operating2 .given .0 .0 ∷ c .operating2 .given .0 .1 .0 ∷ start .args .e .orientational ∷ start .args .e .levelling ∷ [])
+
+  abbrev places : List ℕ
+  places = four ++ []
+
+  is-pair : enabledBytes (start .args .e) ≡ whole 1 ++ places
+  is-pair = pair-bytes (start .args .e) (c .operating2 .given .0 .0) (c .operating2 .given .0 .1 .0) (c .operating2 .given .1)
+
+  all-left : Left (whole 1 ++ places) (start .args .at) (start .args .out .now) (whole 1 ++ places) (start .args .at) (start .args .out .now)
+  all-left = left-all (whole 1 ++ places) (start .args .at) (start .args .out .now)
+
+  room : start .args .at + length (whole 1 ++ places) ≤ length (start .args .out .now)
+  room = rw is-pair at (start .pre)
+
+cast-o : tie.Need-cast-o
+cast-o c = search needs
+
+cast-l : tie.Need-cast-l
+cast-l c = search needs
+
+enum-known-operating : tie.Need-enum-known-operating
+enum-known-operating c = search needs
+
+cast-t14 : tie.Need-cast-t14
+cast-t14 c = search needs
+
+write-numbers-requires : tie.Need-write-numbers-requires
+write-numbers-requires c κs =
+    let o = c .before .before in
+    (omega arith, rw (is-single o) at (o .before .before .before .before .before .pre))
+
+enum-known-operating-2 : tie.Need-enum-known-operating-2
+enum-known-operating-2 c = search needs
+
+cast-t17 : tie.Need-cast-t17
+cast-t17 c = search needs
+
+cast-t18 : tie.Need-cast-t18
+cast-t18 c = search needs
+
+write-number-requires : tie.Need-write-number-requires
+write-number-requires c κs =
+    let o = c .before .before in
+    left-fits (whole 1) (places o) _ (all-left o) (room o)
+
+write-numbers-requires-2 : tie.Need-write-numbers-requires-2
+write-numbers-requires-2 c κs =
+    let w = c .before .before .before in
+    let o = w .before .before .before in
+    (omega arith, left-fits (four o) [] _ (left-put (all-left o) (w .write-number .ensures)) (rw (put-long (w .write-number .ensures)) (room o)))
+
+same-length : tie.Need-same-length
+same-length c = search needs
+
+returns : tie.Need-returns
+returns c = let w = c .before .before in rw (is-single (w .before .before .before)) (w .write-numbers .ensures)
+
+same-length-2 : tie.Need-same-length-2
+same-length-2 c = search needs
+
+returns-2 : tie.Need-returns-2
+returns-2 c =
+    let x = c .before .before in
+    let w = x .before .before .before .before in
+    let o = w .before .before .before in
+    rw (is-pair o) (left-done (left-put (left-put (all-left o) (w .write-number .ensures)) (x .write-numbers2 .ensures)))
+
+pub write-enabled-spec : {M : Type 1} → statement M
+write-enabled-spec =
+    tie.close
+    (tie.spec
+    cast-o
+    cast-l
+    enum-known-operating
+    cast-t14
+    write-numbers-requires
+    enum-known-operating-2
+    cast-t17
+    cast-t18
+    write-number-requires
+    write-numbers-requires-2
+    same-length
+    returns
+    same-length-2
+    returns-2)

@@ -1,0 +1,103 @@
+use Prim.Native.Nat.{ℕ, _+_, _-_, _≤_, _<_}
+use mathlib.Core.Path.{_≡_, refl, sym, _∙_}
+use mathlib.Core.Bool.{true}
+use mathlib.Core.List.{List, [], _∷_, _++_, map, map-append}
+use native.Mathlib.Numerals.{add-one}
+use native.Mathlib.Omega.{arith}
+use borrow.Author.Needs.{needs}
+use borrow.Author.Tests.{not-true, not-false}
+use lib.ListN.{length, take, drop, set, length-set}
+use lib.Seq.{take-suc-set}
+use Rattle.model.specs.declared.System.{System as StoredSystem}
+use Rattle.model.specs.Lists.{all}
+use Rattle.memory.proofs.Shape.{all-more}
+use Rattle.model.specs.Stored.{systemOf, nameShaped}
+use Rattle.model.proofs.Basics.{true-false}
+use Rattle.image.specs.Strict.{strictSystem, strictSystems}
+use Rattle.image.proofs.Turns.{prefixed, turn-first, turn-read, turn-refused, turn-last}
+use Rattle.image.proofs.memories.read_systems.Statement.{statement}
+use Rattle.image.proofs.memories.read_systems.Tie as tie
+
+abbrev Inv-loop : tie.InvT-loop
+Inv-loop bytes at count systems₀ next₀ i₀ systems next i =
+    (i ≤ count) × (length systems ≡ 16) × (strictSystems count (drop at bytes) ≡ prefixed (map systemOf (take i systems)) (strictSystems (count - i) (drop next bytes))) × (all nameShaped (take i systems) ≡ true)
+
+abbrev μ-loop : tie.MeasureT-loop
+μ-loop bytes at count systems₀ next₀ i₀ systems next i = count - i
+
+stored-more : (v : List StoredSystem) (i : ℕ) (x : StoredSystem) → i < length v → map systemOf (take (i + 1) (set v i x)) ≡ map systemOf (take i v) ++ (systemOf x ∷ [])
+stored-more v i x h = rw (add-one, take-suc-set v i x h) (map-append systemOf (take i v) (x ∷ []))
+
+blank-system-requires : tie.Need-blank-system-requires Inv-loop μ-loop
+blank-system-requires c κs = search needs
+
+loop-holds : tie.Need-loop-holds Inv-loop μ-loop
+unfolding all
+loop-holds c = (omega arith, refl, turn-first strictSystem _ _, refl)
+
+read-system-requires : tie.Need-read-system-requires Inv-loop μ-loop
+read-system-requires c κs = search needs
+
+returns : tie.Need-returns Inv-loop μ-loop
+returns c =
+    let r = c .before .before in
+    let l = r .before .before in
+    let e = rw (not-true (r .read-system .result .ok) (c .if1 .taken)) at (r .read-system .ensures .0) in (
+      sym (l .loop .inv .2 ∙ turn-refused strictSystem _ (l .loop .i) _ (map systemOf (take (l .loop .i) (l .loop .systems))) (r .before .loop-test .taken) (sym e)),
+      λ f. true-false (sym f),
+    )
+
+mul-systems : tie.Need-mul-systems Inv-loop μ-loop
+mul-systems c = search needs
+
+array-set-from-systems : tie.Need-array-set-from-systems Inv-loop μ-loop
+array-set-from-systems c = search needs
+
+add-i : tie.Need-add-i Inv-loop μ-loop
+add-i c = search needs
+
+loop-less : tie.Need-loop-less Inv-loop μ-loop
+loop-less c = search needs
+
+loop-again : tie.Need-loop-again Inv-loop μ-loop
+loop-again c =
+    let t = c .before in
+    let r = t .before .before in
+    let l = r .before .before in
+    let i = l .loop .i in
+    let v = l .loop .systems in
+    let x = r .read-system .result .system in
+    let h = r .before .loop-test .taken in
+    let g : i < length v = omega (arith, h, l .loop .inv .1, l .before .before .before .pre) in
+    let e = rw (not-false (r .read-system .result .ok) (t .if1 .left)) at (r .read-system .ensures .0) in (
+      omega (arith, h),
+      length-set v i x ∙ l .loop .inv .1,
+      rw (stored-more v i x g) (l .loop .inv .2 ∙ turn-read strictSystem _ i _ (map systemOf (take i v)) (systemOf x) _ h (sym e)),
+      all-more nameShaped x (r .read-system .ensures .1) v i g (l .loop .inv .3),
+    )
+
+returns-2 : tie.Need-returns-2 Inv-loop μ-loop
+returns-2 c =
+    let l = c .before in
+    let i = l .loop .i in
+    let e : i ≡ l .before .before .before .args .count = omega (arith, l .loop .inv .0, c .loop-test .left) in (
+      sym (l .loop .inv .2 ∙ turn-last strictSystem _ i _ (map systemOf (take i (l .loop .systems))) (l .loop .inv .0) (c .loop-test .left) ∙ rw e),
+      λ f. rw e at (l .loop .inv .3),
+    )
+
+pub read-systems-spec : {M : Type 1} → statement M
+read-systems-spec =
+    tie.close
+    (tie.spec
+    Inv-loop
+    μ-loop
+    blank-system-requires
+    loop-holds
+    read-system-requires
+    returns
+    mul-systems
+    array-set-from-systems
+    add-i
+    loop-less
+    loop-again
+    returns-2)

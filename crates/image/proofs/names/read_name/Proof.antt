@@ -1,0 +1,62 @@
+use native.Mathlib.Omega.{arith}
+use Rattle.image.proofs.NameLaws.{name-long, name-beyond, name-there}
+use borrow.Author.Needs.{needs}
+use Rattle.image.proofs.names.read_name.Statement.{statement}
+use Rattle.image.proofs.names.read_name.Tie as tie
+
+no-name-requires : tie.Need-no-name-requires
+no-name-requires c κs = search needs
+
+returns : tie.Need-returns
+returns c =
+    let s = c .before .before .before in
+    (rw (c .no-name .ensures .0) (name-long (s .args .bytes .now) (s .args .at) (s .args .len) (c .before .if1 .taken)), c .no-name .ensures .1)
+
+left-from-requires : tie.Need-left-from-requires
+left-from-requires c κs = search needs
+
+no-name-requires-2 : tie.Need-no-name-requires-2
+no-name-requires-2 c κs = search needs
+
+returns-2 : tie.Need-returns-2
+returns-2 c =
+    let t = c .before in
+    let l = t .before in
+    let s = l .before .before .before in (
+      rw (c .no-name2 .ensures .0)
+          (name-beyond (s .args .bytes .now) (s .args .at) (s .args .len) (l .before .if1 .left) (omega (arith, t .if2 .taken, l .left-from .ensures))),
+      c .no-name2 .ensures .1,
+    )
+
+copied-requires : tie.Need-copied-requires
+copied-requires c κs = search needs
+
+cast-t10 : tie.Need-cast-t10
+cast-t10 c = search needs
+
+add-t8 : tie.Need-add-t8
+add-t8 c = search needs
+
+returns-3 : tie.Need-returns-3
+returns-3 c =
+    let t = c .before in
+    let l = t .before in
+    let s = l .before .before .before in (
+      rw (c .copied .ensures)
+          (name-there (s .args .bytes .now) (s .args .at) (s .args .len) (l .before .if1 .left) (omega (arith, t .if2 .left, l .left-from .ensures))),
+      l .before .if1 .left,
+    )
+
+pub read-name-spec : {M : Type 1} → statement M
+read-name-spec =
+    tie.close
+    (tie.spec
+    no-name-requires
+    returns
+    left-from-requires
+    no-name-requires-2
+    returns-2
+    copied-requires
+    cast-t10
+    add-t8
+    returns-3)

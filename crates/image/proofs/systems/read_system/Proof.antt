@@ -1,0 +1,121 @@
+use mathlib.Core.Path.{_≡_, sym, _∙_}
+use mathlib.Core.Option.{some}
+use lib.ListN.{take, drop, getD}
+use borrow.Author.Tests.{not-true, not-false}
+use Rattle.model.specs.Stored.{bytesOf}
+use Rattle.model.specs.Kinds.{kinds}
+use Rattle.model.specs.Image.{kindOf}
+use Rattle.image.specs.Strict.{several, mostByte}
+use Rattle.image.proofs.SystemSteps.{coded-kind, coded-none, no-head, no-kind, no-name, named}
+use borrow.Author.Needs.{needs}
+use Rattle.image.proofs.systems.read_system.Statement.{statement}
+use Rattle.image.proofs.systems.read_system.Tie as tie
+
+head-read : (c : tie.Else1) → (
+    let r = c .before .before in
+    let s = r .before .before in
+    several 2 mostByte (drop (s .args .at) (s .args .bytes .now)) ≡ some (take 2 (r .read-numbers .result .values), drop (r .read-numbers .result .next) (s .args .bytes .now))
+    )
+head-read c = let r = c .before .before in sym (rw (not-false (r .read-numbers .result .ok) (c .if1 .left)) at (r .read-numbers .ensures))
+
+kind-read : (c : tie.After-coded) → (
+    let r = c .before .before .before .before .before .before in
+    let v = r .read-numbers .result in
+    let rest = drop (v .next) (r .before .before .args .bytes .now) in
+    kindOf kinds (getD (v .values) 0 0) rest ≡ some (c .coded .given .0 .0, rest)
+    )
+kind-read c =
+    let r = c .before .before .before .before .before .before in
+    coded-kind (getD (r .read-numbers .result .values) 0 0) _ (c .coded .given .0 .0) (c .coded .given .0 .1 .0) (rw (c .coded .given .1) at (c .before .before .kind-coded .ensures))
+
+read-numbers-requires : tie.Need-read-numbers-requires
+read-numbers-requires c κs = search needs
+
+no-system-requires : tie.Need-no-system-requires
+no-system-requires c κs = search needs
+
+returns : tie.Need-returns
+returns c =
+    let r = c .before .before .before in
+    let e = rw (not-true (r .read-numbers .result .ok) (c .before .if1 .taken)) at (r .read-numbers .ensures) in
+    (rw (c .no-system .ensures .0) (sym (no-head _ (sym e))), c .no-system .ensures .1)
+
+array-read-kind-coded : tie.Need-array-read-kind-coded
+array-read-kind-coded c = search needs
+
+kind-coded-requires : tie.Need-kind-coded-requires
+kind-coded-requires c κs = search needs
+
+enum-known-coded : tie.Need-enum-known-coded
+enum-known-coded c = search needs
+
+enum-told : tie.Need-enum-told
+enum-told c = search needs
+
+no-system-requires-2 : tie.Need-no-system-requires-2
+no-system-requires-2 c κs = search needs
+
+returns-2 : tie.Need-returns-2
+returns-2 c =
+    let t = c .before in
+    let k = t .before .before in
+    let e1 = k .before .before in
+    let r = e1 .before .before in
+    let n = coded-none (getD (r .read-numbers .result .values) 0 0) _ (rw (t .enum-told .given .1) at (k .kind-coded .ensures)) in
+    (rw (c .no-system2 .ensures .0) (sym (no-kind _ (r .read-numbers .result .values) _ (head-read e1) n)), c .no-system2 .ensures .1)
+
+array-read-read-name : tie.Need-array-read-read-name
+array-read-read-name c = search needs
+
+read-name-requires : tie.Need-read-name-requires
+read-name-requires c κs = search needs
+
+no-system-requires-3 : tie.Need-no-system-requires-3
+no-system-requires-3 c κs = search needs
+
+returns-3 : tie.Need-returns-3
+returns-3 c =
+    let n = c .before .before .before in
+    let a = n .before .before in
+    let e1 = a .before .before .before .before in
+    let r = e1 .before .before in
+    let e = rw (not-true (n .read-name .result .ok) (c .before .if2 .taken)) at (n .read-name .ensures .0) in (
+      rw (c .no-system3 .ensures .0) (sym (no-name _ (r .read-numbers .result .values) _ (head-read e1) (a .coded .given .0 .0) (kind-read a) (sym e))),
+      c .no-system3 .ensures .1,
+    )
+
+read-placed-requires : tie.Need-read-placed-requires
+read-placed-requires c κs = search needs
+
+returns-4 : tie.Need-returns-4
+returns-4 c =
+    let e2 = c .before .before in
+    let n = e2 .before .before in
+    let a = n .before .before in
+    let e1 = a .before .before .before .before in
+    let r = e1 .before .before in
+    let e = rw (not-false (n .read-name .result .ok) (e2 .if2 .left)) at (n .read-name .ensures .0) in (
+      c .read-placed .ensures .0
+          ∙ sym (named _ (r .read-numbers .result .values) _ (head-read e1) (a .coded .given .0 .0) (kind-read a) (bytesOf (n .read-name .result .name)) _ (sym e)),
+      c .read-placed .ensures .1,
+    )
+
+pub read-system-spec : {M : Type 1} → statement M
+read-system-spec =
+    tie.close
+    (tie.spec
+    read-numbers-requires
+    no-system-requires
+    returns
+    array-read-kind-coded
+    kind-coded-requires
+    enum-known-coded
+    enum-told
+    no-system-requires-2
+    returns-2
+    array-read-read-name
+    read-name-requires
+    no-system-requires-3
+    returns-3
+    read-placed-requires
+    returns-4)

@@ -1,0 +1,58 @@
+// Types and signed numbers, as whole numbers of the image.
+use model::Group;
+use model::Kind;
+ghost use mathlib.Core.Path.{_≡_};
+ghost use Prim.Native.Nat.{_<_, _^_};
+ghost use lib.IntN.{natAbs, negℤ};
+ghost use Rattle.model.specs.Image.{signedCode, signedOf};
+ghost use Rattle.image.specs.Codes.{codedAs, kindCoded};
+
+// The type of a code, with its group.
+pub enum Coded {
+    Known(Kind, Group),
+    Refused,
+}
+
+pub fn kind_coded(code: u64) -> Coded
+    ensures { λ r. ⌜ codedAs r ≡ kindCoded code ⌝ }
+{
+    match code {
+        1 => Coded::Known(Kind::Ksd, Group::Operating),
+        2 => Coded::Known(Kind::Kst, Group::Operating),
+        3 => Coded::Known(Kind::Ksw, Group::Operating),
+        4 => Coded::Known(Kind::Ksb, Group::Orientational),
+        5 => Coded::Known(Kind::Kld, Group::Levelling),
+        0 | 6..=18446744073709551615 => Coded::Refused,
+    }
+}
+
+fn negated(z: i64) -> i64
+    requires { ⌜ natAbs z < 2 ^ 63 ⌝ }
+    ensures { λ r. ⌜ r ≡ negℤ z ⌝ }
+{
+    -z
+}
+
+// Twice the number, or one less than twice what it is below zero.
+pub fn signed_code(z: i64) -> u64
+    requires { ⌜ natAbs z < 2 ^ 62 ⌝ }
+    ensures { λ r. ⌜ r ≡ signedCode z ⌝ }
+{
+    if z < 0 {
+        let m = negated(z);
+        return 2 * (m as u64) - 1;
+    }
+    2 * (z as u64)
+}
+
+pub fn signed_of(n: u64) -> i64
+    requires { ⌜ n < 2 ^ 63 ⌝ }
+    ensures { λ r. ⌜ r ≡ signedOf n ⌝ }
+{
+    let half = n / 2;
+    if n % 2 == 0 {
+        return half as i64;
+    }
+    let below = half + 1;
+    negated(below as i64)
+}

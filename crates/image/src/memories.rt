@@ -1,0 +1,148 @@
+// A memory in an image: edition, number of systems, the systems, what is enabled.
+use crate::enabled::read_enabled;
+use crate::enabled::write_enabled;
+use crate::numbers::read_numbers;
+use crate::numbers::write_numbers;
+use crate::systems::MOST_BYTE;
+use crate::systems::read_system;
+use crate::systems::write_system;
+use memory::factory::blank_system;
+use memory::factory::factory_memory;
+use model::Memory;
+use model::System;
+ghost use Prim.Native.Nat.{_+_, _≤_};
+ghost use mathlib.Core.Path.{_≡_};
+ghost use mathlib.Core.Bool.{true, false};
+ghost use mathlib.Core.List.{map};
+ghost use lib.ListN.{length, take, drop};
+ghost use Rattle.model.specs.Limits.{maxSystems, bufferLimit};
+ghost use Rattle.model.specs.Lists.{all, joined};
+ghost use Rattle.model.specs.WellFormed.{memoryFine};
+ghost use Rattle.model.specs.Image.{systemBytes, image};
+ghost use Rattle.model.specs.Stored.{systemsOf, memoryOf, nameShaped, memoryShaped};
+ghost use Rattle.image.specs.Put.{Put};
+ghost use Rattle.image.specs.Strict.{strictSystems, strictMemory};
+ghost use Rattle.image.specs.Views.{systemsRead, memoryRead};
+
+// The edition that is written, and the only one that is read.
+const EDITION: u64 = 1;
+
+// The first systems that were read, and the place after them.
+pub struct SystemsRead {
+    pub ok: bool,
+    pub next: usize,
+    pub systems: [System; 16],
+}
+
+fn read_systems(bytes: &[u8], at: usize, count: usize) -> SystemsRead
+    requires { ⌜ count ≤ maxSystems ⌝ }
+    ensures { λ r. ⌜ systemsRead (now (bytes .entry)) count r ≡ strictSystems count (drop at (now (bytes .entry))) ⌝ }
+    ensures { λ r. ⌜ (r .ok ≡ true → all nameShaped (take count (r .systems)) ≡ true) ⌝ }
+{
+    let blank = blank_system();
+    let mut systems = [blank; 16];
+    let mut next = at;
+    let mut i = 0;
+    while i < count {
+        let r = read_system(bytes, next);
+        if !r.ok {
+            return SystemsRead {
+                ok: false,
+                next,
+                systems,
+            };
+        }
+        let s = r.system;
+        systems[i] = s;
+        next = r.next;
+        i += 1;
+    }
+    SystemsRead {
+        ok: true,
+        next,
+        systems,
+    }
+}
+
+// A memory, and the place after it.
+pub struct MemoryRead {
+    pub ok: bool,
+    pub next: usize,
+    pub memory: Memory,
+}
+
+fn no_memory() -> MemoryRead
+    ensures { λ r. ⌜ (r .ok ≡ false) × (memoryShaped (r .memory) ≡ true) ⌝ }
+{
+    let memory = factory_memory();
+    MemoryRead {
+        ok: false,
+        next: 0,
+        memory,
+    }
+}
+
+pub fn read_memory(bytes: &[u8]) -> MemoryRead
+    ensures { λ r. ⌜ (memoryRead (now (bytes .entry)) r ≡ strictMemory (now (bytes .entry))) × (memoryShaped (r .memory) ≡ true) ⌝ }
+{
+    let head = read_numbers(bytes, 0, 2, MOST_BYTE);
+    if !head.ok {
+        return no_memory();
+    }
+    let h = head.values;
+    if h[0] != EDITION {
+        return no_memory();
+    }
+    let count = h[1];
+    if 16 < count {
+        return no_memory();
+    }
+    let listed = read_systems(bytes, head.next, count as usize);
+    if !listed.ok {
+        return no_memory();
+    }
+    let last = read_enabled(bytes, listed.next);
+    if !last.ok {
+        return no_memory();
+    }
+    let systems = listed.systems;
+    let enabled = last.enabled;
+    let memory = Memory {
+        systems,
+        count: count as u8,
+        enabled,
+    };
+    MemoryRead {
+        ok: true,
+        next: last.next,
+        memory,
+    }
+}
+
+fn write_systems(out: &mut [u8], at: usize, m: Memory) -> usize
+    requires { ⌜ (memoryShaped m ≡ true) × (memoryFine (memoryOf m) ≡ true) ⌝ }
+    requires { ⌜ at + length (joined (map systemBytes (systemsOf m))) ≤ length (now out) ⌝ }
+    ensures { λ r. ⌜ Put (joined (map systemBytes (systemsOf m))) at (now (out .entry)) (now (out .exit)) r ⌝ }
+{
+    let count = m.count as usize;
+    let mut next = at;
+    let mut i = 0;
+    while i < count {
+        let s = m.systems[i];
+        next = write_system(out, next, s);
+        i += 1;
+    }
+    next
+}
+
+// Writes the image of a memory from the start of the buffer; its length.
+pub fn write_memory(m: Memory, out: &mut [u8]) -> usize
+    requires { ⌜ (memoryShaped m ≡ true) × (memoryFine (memoryOf m) ≡ true) × (bufferLimit ≤ length (now out)) ⌝ }
+    ensures { λ r. ⌜ Put (image (memoryOf m)) 0 (now (out .entry)) (now (out .exit)) r ⌝ }
+{
+    let head = [EDITION, m.count as u64, 0, 0];
+    let listed_at = write_numbers(out, 0, head, 2);
+    let enabled_at = write_systems(out, listed_at, m);
+    let e = m.enabled;
+    write_enabled(out, enabled_at, e)
+}

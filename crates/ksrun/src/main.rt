@@ -1,0 +1,4 @@
+// The coordinate program of the bench: command lines on standard input, replies on standard output.
+fn main() {
+    console::run()
+}

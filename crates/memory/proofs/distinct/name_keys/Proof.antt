@@ -1,0 +1,88 @@
+use Prim.Native.Nat.{min, _-_, _≤_}
+use mathlib.Core.Path.{_≡_, refl, sym, ap, _∙_}
+use native.Mathlib.Omega.{arith}
+use borrow.Author.Needs.{needs}
+use lib.ListN.{length, take, length-map, length-set}
+use lib.Seq.{take-all}
+use Rattle.model.specs.Memory.{System}
+use Rattle.model.specs.Stored.{systemsOf}
+use Rattle.chains.proofs.Copies.{length-mapped}
+use Rattle.memory.specs.Keys.{keyOf, keysOf}
+use Rattle.memory.proofs.Laws.{mapped-at, length-systems, system-at, filled-turn}
+use Rattle.memory.proofs.distinct.name_keys.Statement.{statement}
+use Rattle.memory.proofs.distinct.name_keys.Tie as tie
+
+abbrev Inv-loop : tie.InvT-loop
+Inv-loop m count keys₀ i₀ keys i = (i ≤ count) × (length keys ≡ 16) × (take i keys ≡ take i (keysOf (systemsOf m)))
+
+abbrev μ-loop : tie.MeasureT-loop
+μ-loop m count keys₀ i₀ keys i = count - i
+
+long : (c : tie.Start Inv-loop μ-loop) → length (c .args .t1 .systems) ≡ 16
+long c = search (length-mapped, needs)
+
+-- there are as many keys as systems
+keyed : (c : tie.At-loop Inv-loop μ-loop) → length (keysOf (systemsOf (c .before .before .args .t1))) ≡ c .before .held .result
+keyed c = length-map (systemsOf (c .before .before .args .t1)) (λ (s : System). keyOf (s .name)) ∙ length-systems (c .before .before .args .t1) _ (long (c .before .before)) (c .before .held .ensures)
+
+held-requires : tie.Need-held-requires Inv-loop μ-loop
+held-requires c κs = search needs
+
+loop-holds : tie.Need-loop-holds Inv-loop μ-loop
+loop-holds c = (search needs, refl, refl)
+
+mul-s : tie.Need-mul-s Inv-loop μ-loop
+mul-s c = search needs
+
+element-copy-out-s : tie.Need-element-copy-out-s Inv-loop μ-loop
+element-copy-out-s c = search needs
+
+name-key-requires : tie.Need-name-key-requires Inv-loop μ-loop
+name-key-requires c κs = search needs
+
+mul-keys : tie.Need-mul-keys Inv-loop μ-loop
+mul-keys c = search needs
+
+array-write-keys : tie.Need-array-write-keys Inv-loop μ-loop
+array-write-keys c = search needs
+
+add-i : tie.Need-add-i Inv-loop μ-loop
+add-i c = search needs
+
+loop-less : tie.Need-loop-less Inv-loop μ-loop
+loop-less c = search needs
+
+loop-again : tie.Need-loop-again Inv-loop μ-loop
+loop-again c =
+    let l = c .before .before .before .before in
+    let s = c .before .before .before .before .before .before in
+    let k = c .before .before .before .before .before .held .ensures in
+    let n = keyed l in
+    let at = system-at (s .args .t1) _ (long s) k (l .loop .i) (c .before .before .before .loop-test .taken) in
+    let e = mapped-at (λ (s : System). keyOf (s .name)) (systemsOf (s .args .t1)) (l .loop .i) (omega (arith, length-systems (s .args .t1) _ (long s) k)) ∙ ap (λ (s : System). keyOf (s .name)) at in
+    (omega arith, simp length-set (l .loop .inv .1), filled-turn (l .loop .keys) (keysOf (systemsOf (s .args .t1))) (l .loop .i) _ 0 (omega arith) (omega arith) (l .loop .inv .2) (c .name-key .ensures ∙ sym e))
+
+returns : tie.Need-returns Inv-loop μ-loop
+returns c =
+    let l = c .before in
+    let n = keyed l in
+    let i : min (c .before .before .before .args .t1 .count) 16 ≡ l .loop .i = omega (arith, l .before .held .ensures) in
+    rw i (l .loop .inv .2 ∙ take-all (l .loop .i) _ (omega arith))
+
+pub name-keys-spec : {M : Type 1} → statement M
+name-keys-spec =
+    tie.close
+    (tie.spec
+    Inv-loop
+    μ-loop
+    held-requires
+    loop-holds
+    mul-s
+    element-copy-out-s
+    name-key-requires
+    mul-keys
+    array-write-keys
+    add-i
+    loop-less
+    loop-again
+    returns)

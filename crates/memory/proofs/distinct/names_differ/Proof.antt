@@ -1,0 +1,166 @@
+use Prim.Native.Nat.{ℕ, _+_, _*_, _-_, _<_, _≤_}
+use mathlib.Core.Path.{_≡_, sym, _∙_}
+use native.Mathlib.Omega.{arith}
+use borrow.Author.Needs.{needs}
+use mathlib.Core.Bool.{false}
+use lib.ListN.{length, take, getD}
+use Rattle.model.specs.Memory.{blank}
+use Rattle.model.specs.WellFormed.{namesDiffer}
+use Rattle.model.specs.Stored.{systemsOf}
+use Rattle.chains.proofs.Copies.{length-mapped}
+use Rattle.memory.specs.Keys.{keyOf, keysOf}
+use Rattle.memory.proofs.Laws.{length-systems}
+use Rattle.memory.proofs.Keys.{keys-apart, key-at}
+use Rattle.memory.proofs.Differ.{alike, left, left-from, left-hit, left-miss, left-next, left-end, stored-alike}
+use Rattle.memory.proofs.distinct.names_differ.Statement.{statement}
+use Rattle.memory.proofs.distinct.names_differ.Tie as tie
+
+abbrev Inv-loop : tie.InvT-loop
+Inv-loop m count keys i₀ j₀ i j = (i ≤ count) × (i < j) × (namesDiffer (systemsOf m) ≡ left (systemsOf m) i j)
+
+abbrev μ-loop : tie.MeasureT-loop
+μ-loop m count keys i₀ j₀ i j = (count - i) * 17 + (count - j)
+
+long : (c : tie.Start Inv-loop μ-loop) → length (c .args .t1 .systems) ≡ 16
+long c = search (length-mapped, needs)
+
+counted : (c : tie.At-loop Inv-loop μ-loop) → length (systemsOf (c .before .before .before .args .t1)) ≡ c .before .before .held .result
+counted c = length-systems (c .before .before .before .args .t1) _ (long (c .before .before .before)) (c .before .before .held .ensures)
+
+keyed : (c : tie.At-loop Inv-loop μ-loop) (i : ℕ) → i < c .before .before .held .result → getD (c .before .name-keys .result) i 0 ≡ keyOf (getD (systemsOf (c .before .before .before .args .t1)) i blank .name)
+keyed c i h =
+    let e : take (c .before .before .held .result) (c .before .name-keys .result) ≡ keysOf (systemsOf (c .before .before .before .args .t1)) = rw (c .before .before .held .ensures) (c .before .name-keys .ensures) in
+    key-at (systemsOf (c .before .before .before .args .t1)) _ (c .before .before .held .result) i e (counted c) h
+
+-- different keys
+apart : (c : tie.Then2 Inv-loop μ-loop) → alike (systemsOf (c .before .before .before .before .before .before .args .t1)) (c .before .before .before .loop .i) (getD (systemsOf (c .before .before .before .before .before .before .args .t1)) (c .before .before .before .loop .j) blank) ≡ false
+apart c =
+    let l = c .before .before .before in
+    let ei = keyed l (l .loop .i) (c .before .before .loop-test .taken) in
+    let ej = keyed l (l .loop .j) (c .before .if1 .left) in
+    keys-apart (getD (systemsOf (c .before .before .before .before .before .before .args .t1)) (l .loop .i) blank .name) (getD (systemsOf (c .before .before .before .before .before .before .args .t1)) (l .loop .j) blank .name) (λ q. c .if2 .taken (ei ∙ q ∙ sym ej))
+
+-- the two names are those at i and j
+compared : (c : tie.After-same-name Inv-loop μ-loop) → alike (systemsOf (c .before .before .before .before .before .before .before .before .before .before .before .args .t1)) (c .before .before .before .before .before .before .before .before .loop .i) (getD (systemsOf (c .before .before .before .before .before .before .before .before .before .before .before .args .t1)) (c .before .before .before .before .before .before .before .before .loop .j) blank) ≡ c .same-name .result
+compared c =
+    let l = c .before .before .before .before .before .before .before .before in
+    stored-alike (c .before .before .before .before .before .before .before .before .before .before .before .args .t1) _ (long (c .before .before .before .before .before .before .before .before .before .before .before)) (c .before .before .before .before .before .before .before .before .before .before .held .ensures) (l .loop .i) (l .loop .j) (c .before .before .before .before .before .before .before .loop-test .taken) (c .before .before .before .before .before .before .if1 .left)
+    ∙ sym (c .same-name .ensures)
+
+held-requires : tie.Need-held-requires Inv-loop μ-loop
+held-requires c κs = search needs
+
+name-keys-requires : tie.Need-name-keys-requires Inv-loop μ-loop
+name-keys-requires c κs = search needs
+
+loop-holds : tie.Need-loop-holds Inv-loop μ-loop
+loop-holds c = (search needs, search needs, left-from _ 0)
+
+add-i : tie.Need-add-i Inv-loop μ-loop
+add-i c = search needs
+
+add-j : tie.Need-add-j Inv-loop μ-loop
+add-j c = search needs
+
+loop-less : tie.Need-loop-less Inv-loop μ-loop
+loop-less c = search needs
+
+loop-again : tie.Need-loop-again Inv-loop μ-loop
+loop-again c =
+    let l = c .before .before in
+    let n = counted l in
+    (omega arith, omega arith, l .loop .inv .2 ∙ left-next _ (l .loop .i) (l .loop .j) (omega arith))
+
+mul-if2 : tie.Need-mul-if2 Inv-loop μ-loop
+mul-if2 c = search needs
+
+array-read-if2 : tie.Need-array-read-if2 Inv-loop μ-loop
+array-read-if2 c = search needs
+
+mul-if2-2 : tie.Need-mul-if2-2 Inv-loop μ-loop
+mul-if2-2 c = search needs
+
+array-read-if2-2 : tie.Need-array-read-if2-2 Inv-loop μ-loop
+array-read-if2-2 c = search needs
+
+add-j-2 : tie.Need-add-j-2 Inv-loop μ-loop
+add-j-2 c = search needs
+
+loop-less-2 : tie.Need-loop-less-2 Inv-loop μ-loop
+loop-less-2 c = search needs
+
+loop-again-2 : tie.Need-loop-again-2 Inv-loop μ-loop
+loop-again-2 c =
+    let l = c .before .before .before in
+    let n = counted l in
+    (omega arith, omega arith, l .loop .inv .2 ∙ left-miss _ (l .loop .i) (l .loop .j) (omega arith) (apart c))
+
+mul-s : tie.Need-mul-s Inv-loop μ-loop
+mul-s c = search needs
+
+element-copy-out-s : tie.Need-element-copy-out-s Inv-loop μ-loop
+element-copy-out-s c = search needs
+
+mul-t : tie.Need-mul-t Inv-loop μ-loop
+mul-t c = search needs
+
+element-copy-out-t : tie.Need-element-copy-out-t Inv-loop μ-loop
+element-copy-out-t c = search needs
+
+same-name-requires : tie.Need-same-name-requires Inv-loop μ-loop
+same-name-requires c κs = search needs
+
+returns : tie.Need-returns Inv-loop μ-loop
+returns c =
+    let l = c .before .before .before .before .before .before .before .before .before in
+    let n = counted l in
+    sym (l .loop .inv .2 ∙ left-hit _ (l .loop .i) (l .loop .j) (omega arith) (compared (c .before) ∙ c .if3 .taken))
+
+add-j-3 : tie.Need-add-j-3 Inv-loop μ-loop
+add-j-3 c = search needs
+
+loop-less-3 : tie.Need-loop-less-3 Inv-loop μ-loop
+loop-less-3 c = search needs
+
+loop-again-3 : tie.Need-loop-again-3 Inv-loop μ-loop
+loop-again-3 c =
+    let l = c .before .before .before .before .before .before .before .before .before in
+    let n = counted l in
+    (omega arith, omega arith, l .loop .inv .2 ∙ left-miss _ (l .loop .i) (l .loop .j) (omega arith) (compared (c .before) ∙ c .if3 .left))
+
+returns-2 : tie.Need-returns-2 Inv-loop μ-loop
+returns-2 c =
+    let l = c .before in
+    let n = counted l in
+    sym (l .loop .inv .2 ∙ left-end _ (l .loop .i) (l .loop .j) (omega arith) (l .loop .inv .1))
+
+pub names-differ-spec : {M : Type 1} → statement M
+names-differ-spec =
+    tie.close
+    (tie.spec
+    Inv-loop
+    μ-loop
+    held-requires
+    name-keys-requires
+    loop-holds
+    add-i
+    add-j
+    loop-less
+    loop-again
+    mul-if2
+    array-read-if2
+    mul-if2-2
+    array-read-if2-2
+    add-j-2
+    loop-less-2
+    loop-again-2
+    mul-s
+    element-copy-out-s
+    mul-t
+    element-copy-out-t
+    same-name-requires
+    returns
+    add-j-3
+    loop-less-3
+    loop-again-3
+    returns-2)

@@ -1,0 +1,49 @@
+-- Laws of readers (specs/Image.antt): one after the other, and what it means that one has given something.
+use Prim.Native.Nat.{ℕ}
+use mathlib.Core.Path.{_≡_, refl, ap}
+use mathlib.Core.List.{List}
+use mathlib.Core.Bool.{Bool, true, false, cond}
+use mathlib.Core.Option.{Option, none, some}
+use native.Mathlib.Omega.{arith}
+use Rattle.model.specs.Image.{Reader, _>>=_, fail}
+
+-- ---- something and nothing
+
+pub nothing : {A C : Type 0} {y : A} → _≡_ {A = Option A} none (some y) → C
+nothing e = let q : _≡_ {A = ℕ} 0 1 = cc in absurd (omega arith)
+
+-- a test that gave something was passed, and gave that
+pub passed : {A : Type 0} (t : Bool) (x y : A) → _≡_ {A = Option A} (cond t (some x) none) (some y) → (t ≡ true) × (x ≡ y)
+passed true x y e = (refl, cc)
+passed false x y e = nothing e
+
+pub one-read : {A B : Type 0} {a b : A} {r s : B} → _≡_ {A = Option (A × B)} (some (a, r)) (some (b, s)) → (a ≡ b) × (r ≡ s)
+one-read {A} {B} {a} {b} {r} {s} e =
+    let q : _≡_ {A = A × B} (a, r) (b, s) = cc in
+    (ap (λ (p : A × B). p .0) q, ap (λ (p : A × B). p .1) q)
+
+-- a reader behind a test
+pub chosen : {A : Type 0} (t : Bool) (r : Reader A) (bs : List ℕ) {p : A × List ℕ} → cond t r fail bs ≡ some p → (t ≡ true) × (r bs ≡ some p)
+unfolding fail
+chosen true r bs e = (refl, e)
+chosen false r bs e = nothing e
+
+-- ---- one reader after the other
+
+module _ {A B : Type 0} (r : Reader A) (f : A → Reader B) (bs : List ℕ) where
+  pub then : {a : A} {rest : List ℕ} → r bs ≡ some (a, rest) → _>>=_ r f bs ≡ f a rest
+  unfolding _>>=_
+  then e = rw (e, _>>=_)
+
+  pub then-none : r bs ≡ none → _>>=_ r f bs ≡ none
+  unfolding _>>=_
+  then-none e = rw (e, _>>=_)
+
+  -- what the first gave, and the second after it
+  pub gave : {b : B} {rest : List ℕ} → _>>=_ r f bs ≡ some (b, rest)
+      → (a : A) × (mid : List ℕ) × (r bs ≡ some (a, mid)) × (f a mid ≡ some (b, rest))
+  gave {b} {rest} e = cases (r bs) refl
+    where
+      cases : (o : Option (A × List ℕ)) → r bs ≡ o → (a : A) × (mid : List ℕ) × (r bs ≡ some (a, mid)) × (f a mid ≡ some (b, rest))
+      cases none q = nothing (rw (then-none q) at e)
+      cases (some p) q = (p .0, p .1, q, rw (then q) at e)

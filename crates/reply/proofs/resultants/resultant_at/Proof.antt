@@ -1,0 +1,160 @@
+use Prim.Native.Nat.{ℕ, suc, _+_, _≤_, _<_}
+use mathlib.Core.Path.{_≡_, sym, ap, _∙_}
+use mathlib.Core.List.{List, []}
+use native.Mathlib.Omega.{arith}
+use lib.ListN.{length, getD, length-append}
+use lib.Seq.{length-take-le}
+use Rattle.model.specs.Memory.{fixedRef, userRef}
+use Rattle.model.specs.Reply.{listing, resultantLine}
+use Rattle.model.specs.Stored.{bytesOf, systemsOf, memoryOf}
+use Rattle.model.proofs.Fine.{fine-of}
+use Rattle.chains.specs.Walk.{walkOf}
+use Rattle.chains.proofs.Copies.{length-mapped, unset}
+use Rattle.print.proofs.Laws.{wrote-then}
+use Rattle.reply.specs.Reached.{reachedText, refAt}
+use Rattle.reply.proofs.ListLaws.{replied}
+use Rattle.reply.proofs.ReachLaws.{ref-fixed, ref-user, FlatOf, flat-of, can-walk, deep-enough, reached-within, reached-line}
+use Rattle.reply.proofs.ShortLaws.{resultant-short}
+use Rattle.reply.proofs.StoredLaws.{few, name-fits}
+use borrow.Author.Needs.{needs}
+use Rattle.reply.proofs.resultants.resultant_at.Statement.{statement}
+use Rattle.reply.proofs.resultants.resultant_at.Tie as tie
+
+long : (s : tie.Start) → length (s .args .t1 .systems) ≡ 16
+long s = search (length-mapped, needs)
+
+abbrev text : tie.Start → List ℕ
+text s = resultantLine (systemsOf (s .args .t1)) (refAt (systemsOf (s .args .t1)) (s .args .g) (s .args .place))
+
+-- the line and its end fit
+fits : (s : tie.Start) → length (text s) + 1 ≤ length (s .args .reply .now)
+fits s = omega (arith, s .pre .0 .room, resultant-short (systemsOf (s .args .t1)) (fine-of (memoryOf (s .args .t1)) (s .pre .0 .fine) .systems) (refAt (systemsOf (s .args .t1)) (s .args .g) (s .args .place)))
+
+-- ---- a fixed system
+
+fixed : (c : tie.Then1) → text (c .before .before) ≡ resultantLine [] (fixedRef (c .before .before .args .g))
+fixed c = let s = c .before .before in ref-fixed (systemsOf (s .args .t1)) (s .args .g) (s .args .place) (c .if1 .taken)
+
+put-fixed-resultant-requires : tie.Need-put-fixed-resultant-requires
+put-fixed-resultant-requires c κs = omega (arith, fits (c .before .before .before), ap length (fixed (c .before)))
+
+put-byte-requires : tie.Need-put-byte-requires
+put-byte-requires c κs = omega (arith, fits (c .before .before .before .before .before .before .before), ap length (fixed (c .before .before .before .before .before)))
+
+same-length : tie.Need-same-length
+same-length c = search needs
+
+returns : tie.Need-returns
+unfolding listing
+returns c =
+    let e = c .before .before in
+    let f = e .before .before .before .before in
+    replied (rw length-append (fits (c .before .before .before .before .before .before .before .before .before .before))) (rw (fixed (f .before .before)) (wrote-then (f .put-fixed-resultant .ensures) (e .put-byte .ensures)))
+
+-- ---- a user system
+
+flat : (c : tie.After-turns) → FlatOf (c .before .before .before .before .before .before .before .args .t1) (c .before .before .before .before .before .before .before .args .reply .now) (c .before .before .before .before .links-of .result .preds) (c .before .before .before .frames-of .result .offsets) (c .before .before .before .frames-of .result .turns)
+flat c =
+    let s = c .before .before .before .before .before .before .before in
+    flat-of (s .args .t1) (s .pre .0) (long s) (c .before .before .before .before .links-of .ensures) (search needs) (c .before .before .before .frames-of .ensures) (search needs) (search needs)
+
+-- the index of the place is below the count, and so in the array
+slot-is : (c : tie.After-slot) → (c .before .before .before .before .before .before .before .before .args .place ≡ suc (c .slot .result)) × (c .slot .result < c .before .before .before .before .before .before .before .before .args .t1 .count) × (c .slot .result < 16)
+slot-is c =
+    let s = c .before .before .before .before .before .before .before .before in
+    let n = c .before .before .before .before .before .before .if1 .left in
+    let f = few (s .args .t1) (s .pre .0 .shaped) (long s) in
+    (omega (arith, n, c .slot .ensures), omega (arith, n, c .slot .ensures, s .pre .1), omega (arith, n, c .slot .ensures, s .pre .1, f))
+
+user : (c : tie.After-group-of) → text (c .before .before .before .before .before .before .before .before .before .before .before .before .before .before .before) ≡ reachedText (bytesOf (getD (c .before .before .before .before .before .before .before .before .before .before .before .before .before .before .before .args .t1 .systems) (c .before .before .before .before .before .before .before .slot .result) unset .name)) (c .group-of .result) (walkOf (c .before .before .reach .result))
+user c =
+    let s = c .before .before .before .before .before .before .before .before .before .before .before .before .before .before .before in
+    let k = c .before .before .before .before .before .before .before in
+    let l = systemsOf (s .args .t1) in
+    ap (resultantLine l) (ref-user l (s .args .g) (s .args .place) (c .before .before .before .before .before .before .before .before .before .before .before .before .before .if1 .left) ∙ ap (λ (i : ℕ). userRef l (suc i)) (sym (k .slot .ensures)))
+    ∙ rw (c .group-of .ensures) (reached-line (flat (c .before .before .before .before .before .before .before .before)) (slot-is k .0) (slot-is k .1) (c .before .before .reach .ensures .0))
+
+links-of-requires : tie.Need-links-of-requires
+links-of-requires c κs = search needs
+
+frames-of-requires : tie.Need-frames-of-requires
+frames-of-requires c κs = search needs
+
+cast-count : tie.Need-cast-count
+cast-count c = search needs
+
+slot-requires : tie.Need-slot-requires
+slot-requires c κs = search needs
+
+mul-s : tie.Need-mul-s
+mul-s c = search needs
+
+element-copy-out-s : tie.Need-element-copy-out-s
+element-copy-out-s c = slot-is c .2
+
+slice-aggregate-reach : tie.Need-slice-aggregate-reach
+slice-aggregate-reach c = search needs
+
+slice-aggregate-reach-2 : tie.Need-slice-aggregate-reach-2
+slice-aggregate-reach-2 c = search needs
+
+array-share-prefix-preds : tie.Need-array-share-prefix-preds
+array-share-prefix-preds c = let s = c .before .before .before .before .before .before .before .before .before .before .before in omega (arith, flat (c .before .before .before .before) .many, few (s .args .t1) (s .pre .0 .shaped) (long s))
+
+slice-aggregate-reach-3 : tie.Need-slice-aggregate-reach-3
+slice-aggregate-reach-3 c =
+    let s = c .before .before .before .before .before .before .before .before .before .before .before .before in
+    sym (length-take-le (s .args .t1 .count) (c .before .before .before .before .before .before .before .before .before .links-of .result .preds) (omega (arith, flat (c .before .before .before .before .before) .many, few (s .args .t1) (s .pre .0 .shaped) (long s))))
+
+reach-requires : tie.Need-reach-requires
+reach-requires c κs = let f = flat (c .before .before .before .before .before) in (can-walk f, deep-enough f _ (c .before .before .before .before .before .before .before .before .before .before .before .before .pre .1))
+
+group-of-requires : tie.Need-group-of-requires
+group-of-requires c κs = search needs
+
+put-reached-requires : tie.Need-put-reached-requires
+put-reached-requires c κs =
+    let s = c .before .before .before .before .before .before .before .before .before .before .before .before .before .before .before in
+    let k = slot-is (c .before .before .before .before .before .before .before) in (
+      name-fits (s .args .t1) (s .pre .0 .shaped) (long s) (c .before .before .before .before .before .before .before .slot .result) (k .1),
+      reached-within (flat (c .before .before .before .before .before .before .before .before)) (k .0) (k .1) (c .before .before .reach .ensures .0),
+      omega (arith, fits s, ap length (user c)),
+    )
+
+put-byte-requires-2 : tie.Need-put-byte-requires-2
+put-byte-requires-2 c κs = let k = c .before .before .before in omega (arith, fits (c .before .before .before .before .before .before .before .before .before .before .before .before .before .before .before .before .before .before .before), ap length (user (k .before)), k .put-reached .ensures .place, k .put-reached .kept .0)
+
+same-length-2 : tie.Need-same-length-2
+same-length-2 c = search needs
+
+returns-2 : tie.Need-returns-2
+unfolding listing
+returns-2 c =
+    let e = c .before .before in
+    let k = e .before .before .before .before in
+    replied (rw length-append (fits (c .before .before .before .before .before .before .before .before .before .before .before .before .before .before .before .before .before .before .before .before .before .before))) (rw (user (k .before)) (wrote-then (k .put-reached .ensures) (e .put-byte2 .ensures)))
+
+pub resultant-at-spec : {M : Type 1} → statement M
+resultant-at-spec =
+    tie.close
+    (tie.spec
+    put-fixed-resultant-requires
+    put-byte-requires
+    same-length
+    returns
+    links-of-requires
+    frames-of-requires
+    cast-count
+    slot-requires
+    mul-s
+    element-copy-out-s
+    slice-aggregate-reach
+    slice-aggregate-reach-2
+    array-share-prefix-preds
+    slice-aggregate-reach-3
+    reach-requires
+    group-of-requires
+    put-reached-requires
+    put-byte-requires-2
+    same-length-2
+    returns-2)

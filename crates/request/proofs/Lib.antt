@@ -1,0 +1,4 @@
+pub mod CommandLaws
+pub mod Laws
+pub mod Says
+pub mod Words

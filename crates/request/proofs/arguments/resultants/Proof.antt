@@ -1,0 +1,26 @@
+use mathlib.Core.Path.{sym, _∙_}
+use borrow.Author.Needs.{needs}
+use Rattle.request.specs.declared.Asked.the-variants.{ListResultants}
+use Rattle.request.proofs.Laws.{every-resultant, one-resultant}
+use Rattle.request.proofs.Says.{says-as, says-plain}
+use Rattle.request.proofs.arguments.resultants.Statement.{statement}
+use Rattle.request.proofs.arguments.resultants.Tie as tie
+
+ended-requires : tie.Need-ended-requires
+ended-requires c κs = search needs
+
+plain-requires : tie.Need-plain-requires
+plain-requires c κs = search needs
+
+returns : tie.Need-returns
+returns c = says-plain ListResultants (c .plain .ensures) (sym (every-resultant _ (sym (c .before .before .ended .ensures) ∙ c .before .if1 .taken)))
+
+one-name-requires : tie.Need-one-name-requires
+one-name-requires c κs = search needs
+
+returns-2 : tie.Need-returns-2
+returns-2 c = says-as (c .one-name .ensures) (sym (one-resultant _ (sym (c .before .before .ended .ensures) ∙ c .before .if1 .left)))
+
+pub resultants-spec : {M : Type 1} → statement M
+resultants-spec =
+    tie.close (tie.spec ended-requires plain-requires returns one-name-requires returns-2)

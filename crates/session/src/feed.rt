@@ -1,0 +1,166 @@
+// A block of input, fed to the machine line by line.
+use crate::cut::Kept;
+use crate::cut::keep;
+use crate::cut::line_end;
+use engine::line::obey;
+use model::State;
+use print::put_byte;
+use print::put_decimal;
+use print::put_text;
+ghost use mathlib.Core.Path.{_≡_};
+ghost use mathlib.Core.List.{[]};
+ghost use Prim.Native.Nat.{_≤_};
+ghost use lib.ListN.{length, take};
+ghost use Rattle.model.specs.Limits.{bufferLimit};
+ghost use Rattle.engine.specs.Fine.{Fine};
+ghost use Rattle.session.specs.Feed.{enough};
+ghost use Rattle.session.specs.Blocks.{Begins, Answers, Feeds, Ends};
+
+// Between two blocks: the state, and the bytes of a line that no block has ended yet.
+pub struct Session {
+    pub state: State,
+    pub held: Kept,
+}
+
+// What a block left: the session, how many of its bytes were used, and how many bytes of answers were written.
+pub struct Fed {
+    pub session: Session,
+    pub used: usize,
+    pub written: usize,
+}
+
+// One line answered: the next state, and how many bytes were written.
+pub struct Answer {
+    pub state: State,
+    pub written: usize,
+}
+
+const ROOM: usize = 4096;
+
+fn nothing_held() -> Kept
+    ensures { λ r. ⌜ r .count ≡ 0 ⌝ }
+{
+    Kept {
+        bytes: [0u8; 121],
+        count: 0,
+    }
+}
+
+// A session begins at the factory, with nothing held.
+pub fn begin() -> Session
+    ensures { λ r. ⌜ Begins r ⌝ }
+{
+    let state = machine::start_factory();
+    let held = nothing_held();
+    Session { state, held }
+}
+
+// The reply as it is, or E and the number.
+fn answer(s: State, line: &[u8], out: &mut [u8]) -> Answer
+    requires { ⌜ Fine s ⌝ }
+    requires { ⌜ bufferLimit ≤ length (now out) ⌝ }
+    ensures { λ r. ⌜ Answers s (now (line .entry)) (now (out .entry)) (now (out .exit)) r ⌝ }
+{
+    let r = obey(s, line, out);
+    let number = r.number;
+    let state = r.state;
+    if number == 0 {
+        return Answer {
+            state,
+            written: r.length,
+        };
+    }
+    let a = put_text(out, 0, b"E ");
+    let b = put_decimal(out, a, number as u64);
+    let written = put_byte(out, b, b'\n');
+    Answer { state, written }
+}
+
+// Whole lines from the start of a block on, while there is room for an answer.
+fn whole_lines(s: State, block: &[u8], out: &mut [u8]) -> Fed
+    requires { ⌜ Fine s ⌝ }
+    requires { ⌜ bufferLimit ≤ length (now out) ⌝ }
+    ensures { λ r. ⌜ Feeds s [] (now (block .entry)) (now (out .entry)) (now (out .exit)) r ⌝ }
+{
+    let mut state = s;
+    let mut at = 0;
+    let mut written = 0;
+    while ROOM <= out.len() - written {
+        let end = line_end(block, at);
+        if end == block.len() {
+            let held = keep(nothing_held(), &block[at..]);
+            let session = Session { state, held };
+            return Fed {
+                session,
+                used: end,
+                written,
+            };
+        }
+        let a = answer(state, &block[at..end], &mut out[written..]);
+        state = a.state;
+        written += a.written;
+        at = end + 1;
+    }
+    let held = nothing_held();
+    let session = Session { state, held };
+    Fed {
+        session,
+        used: at,
+        written,
+    }
+}
+
+// A block: first the line that was held, if there is one, then whole lines.
+pub fn feed(s: Session, block: &[u8], out: &mut [u8]) -> Fed
+    requires { ⌜ Fine (s .state) ⌝ }
+    requires { ⌜ s .held .count ≤ enough ⌝ }
+    requires { ⌜ bufferLimit ≤ length (now out) ⌝ }
+    ensures { λ r. ⌜ Feeds (s .state) (take (s .held .count) (s .held .bytes)) (now (block .entry)) (now (out .entry)) (now (out .exit)) r ⌝ }
+{
+    let held = s.held;
+    let state = s.state;
+    if held.count == 0 {
+        return whole_lines(state, block, out);
+    }
+    let end = line_end(block, 0);
+    let line = keep(held, &block[..end]);
+    if end == block.len() {
+        let session = Session { state, held: line };
+        return Fed {
+            session,
+            used: end,
+            written: 0,
+        };
+    }
+    let bytes = line.bytes;
+    let count = line.count;
+    let a = answer(state, &bytes[..count], out);
+    let next = nothing_held();
+    let session = Session {
+        state: a.state,
+        held: next,
+    };
+    Fed {
+        session,
+        used: end + 1,
+        written: a.written,
+    }
+}
+
+// The end of the input: bytes after the last LF, if any, are one more line.
+pub fn finish(s: Session, out: &mut [u8]) -> usize
+    requires { ⌜ Fine (s .state) ⌝ }
+    requires { ⌜ s .held .count ≤ enough ⌝ }
+    requires { ⌜ bufferLimit ≤ length (now out) ⌝ }
+    ensures { λ r. ⌜ Ends s (now (out .entry)) (now (out .exit)) r ⌝ }
+{
+    let held = s.held;
+    let state = s.state;
+    let bytes = held.bytes;
+    let count = held.count;
+    if count == 0 {
+        return 0;
+    }
+    let a = answer(state, &bytes[..count], out);
+    a.written
+}
