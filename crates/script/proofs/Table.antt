@@ -12,7 +12,7 @@ use borrow.Author.Tests.{lt-leb}
 use Rattle.model.specs.Ascii.{ascii}
 use Rattle.model.specs.Lists.{same, none?, all}
 use Rattle.model.specs.Words.{spelled}
-use Rattle.text.specs.Cursor.{blanks, run}
+use Rattle.text.specs.Cursor.{lead}
 use Rattle.script.specs.Hex.{digitValue, hex?, pairsRead, unhexed}
 use Rattle.script.specs.Directive.{longestLine, fieldsUpTo, lengthOf, bytesOf, Order, line, restart, write, start, factory, unclear, oneField, twoFields, threeFields, understood, order}
 
@@ -48,11 +48,11 @@ Unclear [] = Unit {0}
 Unclear (t ∷ ts) = (order t ≡ unclear) × Unclear ts
 
 pub as-said : AsSaid rows
-unfolding order understood fieldsUpTo none? blanks run oneField twoFields threeFields lengthOf bytesOf same all spelled unhexed hex? pairsRead digitValue
+unfolding order understood fieldsUpTo none? lead oneField twoFields threeFields lengthOf bytesOf same all spelled unhexed hex? pairsRead digitValue
 as-said = (refl, (refl, (refl, (refl, (refl, (refl, (refl, tt)))))))
 
 pub no-directive : Unclear others
-unfolding order understood fieldsUpTo none? blanks run oneField twoFields threeFields lengthOf bytesOf same all spelled unhexed hex? pairsRead digitValue
+unfolding order understood fieldsUpTo none? lead oneField twoFields threeFields lengthOf bytesOf same all spelled unhexed hex? pairsRead digitValue
 no-directive =
     (refl, (refl, (refl, (refl, (refl, (refl, (refl, (refl, (refl, (refl, (refl, (refl, (refl, (refl, (refl, (refl, (refl, tt)))))))))))))))))
 

@@ -5,8 +5,7 @@ use mathlib.Core.List.{List, []}
 use mathlib.Core.Option.{Option, none, some}
 use lib.ListN.{length, take}
 use Rattle.model.specs.Machine.{startFactory, startImage, began}
-use Rattle.model.specs.Stored.{View, viewOf, Answered, Restarted, ofBegun}
-use Rattle.machine.specs.Calls.{lineAnswer, imageAnswer, restartAnswer}
+use Rattle.model.specs.Stored.{View, viewOf, Answered, Restarted, ofBegun, lineAnswer, imageAnswer, restartAnswer}
 use Rattle.print.specs.Over.{Wrote}
 use Rattle.script.specs.declared.obey.Obeyed.{Obeyed}
 use Rattle.script.specs.Directive.{Order, line, restart, write, start, factory, unclear, order}

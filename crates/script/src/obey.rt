@@ -3,13 +3,14 @@ use crate::answer::put_complaint;
 use crate::answer::put_said;
 use crate::parse::Directive;
 use crate::parse::parse;
+use engine::answer::Stepped;
 use machine::Begun;
-use machine::Stepped;
 use model::State;
 ghost use Prim.Native.Nat.{_+_, _*_, _≤_};
 ghost use lib.ListN.{length};
-ghost use Rattle.model.specs.Stored.{viewOf};
-ghost use Rattle.machine.specs.Calls.{steppedOf, begunOf, lineAnswer, imageAnswer};
+ghost use Rattle.model.specs.Stored.{viewOf, lineAnswer, imageAnswer};
+ghost use Rattle.engine.specs.Fine.{answeredOf};
+ghost use Rattle.machine.specs.Calls.{begunOf};
 ghost use Rattle.script.specs.Directive.{longestLine, longestLent};
 ghost use Rattle.script.specs.Answer.{longestAnswer};
 ghost use Rattle.script.specs.Obey as Obey;
@@ -24,7 +25,7 @@ pub struct Obeyed {
 // A call that was lent a buffer, which holds its reply.
 fn say(r: Stepped, reply: &[u8], out: &mut [u8], at: usize) -> Obeyed
     requires { ⌜ at + 2 * length (now reply) + 7 ≤ length (now out) ⌝ }
-    ensures { λ o. ⌜ Answers (Obey.lent (steppedOf r (now (reply .entry)))) (now (out .entry)) at (now (out .exit)) o ⌝ }
+    ensures { λ o. ⌜ Answers (Obey.lent (answeredOf r (now (reply .entry)))) (now (out .entry)) at (now (out .exit)) o ⌝ }
 {
     let state = r.state;
     let n = r.length;
