@@ -1,0 +1,49 @@
+-- `write_image` writes the image of the permanent memory; it can meet only 1 and 2.
+use mathlib.Core.Path.{_≡_, sym, _∙_}
+use borrow.Author.Tests.{not-true, not-false, lt-ltb, le-ltb}
+use Rattle.model.specs.Refusals.{short}
+use Rattle.model.specs.Stored.{stateOf}
+use Rattle.model.proofs.Fine.{state-of}
+use Rattle.engine.proofs.Views.{shape-parts, fine-of, ill-image}
+use Rattle.machine.proofs.Calls.{image-refused, image-taken}
+use borrow.Author.Needs.{needs}
+use Rattle.machine.proofs.write_image.Statement.{statement}
+use Rattle.machine.proofs.write_image.Tie as tie
+use Rattle.machine.proofs.write_image.Reads as reads
+use Rattle.machine.proofs.write_image.Lts as lts
+use Rattle.image.proofs.write.Reads as write-reads
+use Rattle.memory.proofs.fine.state_fine.Reads as state-fine-reads
+
+state-fine-requires : tie.Need-state-fine-requires
+state-fine-requires c κs = search needs
+
+returns : tie.Need-returns
+returns c =
+    let start = c .before .before .before in
+    sym (ill-image (start .args .s) (sym (c .before .state-fine .ensures) ∙ not-true _ (c .if1 .taken)) (start .args .out .now))
+
+returns-2 : tie.Need-returns-2
+unfolding short
+returns-2 c =
+    let start = c .before .before .before .before in
+    image-refused (start .args .s) (fine-of (start .args .s) (sym (c .before .before .state-fine .ensures) ∙ not-false _ (c .before .if1 .left))) (start .args .out .now) (lt-ltb _ _ (c .if2 .taken))
+
+write-requires : tie.Need-write-requires
+write-requires c κs =
+    let start = c .before .before .before .before .before .before in
+    let f = fine-of (start .args .s) (sym (c .before .before .before .before .state-fine .ensures) ∙ not-false _ (c .before .before .before .if1 .left)) in
+    (shape-parts (start .args .s) (f .shape) .1, state-of (stateOf (start .args .s)) (f .formed) .permanent, c .before .before .if2 .left)
+
+same-length : tie.Need-same-length
+same-length c = search needs
+
+returns-3 : tie.Need-returns-3
+unfolding short
+returns-3 c =
+    let start = c .before .before .before .before .before .before .before .before .before in
+    let w = c .before .before .write .ensures in
+    image-taken (start .args .s) (fine-of (start .args .s) (sym (c .before .before .before .before .before .before .before .state-fine .ensures) ∙ not-false _ (c .before .before .before .before .before .before .if1 .left))) (start .args .out .now) _ _ (le-ltb _ _ (c .before .before .before .before .before .if2 .left)) (w .0) (w .1)
+
+pub write-image-spec : {M : Type 1} → statement M
+write-image-spec =
+    tie.close (tie.spec state-fine-requires returns returns-2 write-requires same-length returns-3)
