@@ -3,6 +3,5 @@ pub mod FieldLaws
 pub mod LengthLaws
 pub mod OrderLaws
 pub mod AnswerLaws
-pub mod CutLaws
 pub mod ObeyLaws
 pub mod Table

@@ -4,7 +4,7 @@ use native.Mathlib.Omega.{arith}
 use borrow.Author.Needs.{needs}
 use lib.ListN.{length}
 use Rattle.script.specs.Run.{Between}
-use Rattle.script.proofs.CutLaws.{end-inside}
+use Rattle.lines.proofs.Laws.{end-inside}
 use Rattle.script.proofs.drive.feed.Statement.{statement}
 use Rattle.script.proofs.drive.feed.Tie as tie
 
