@@ -13,6 +13,9 @@ ghost use lib.ListN.{length};
 ghost use Rattle.script.specs.Answer.{longestAnswer};
 ghost use Rattle.script.specs.Run.{Roomy, Between};
 
+// The number, a space, two digits for each byte of the longest lent buffer, and LF.
+const LONGEST_ANSWER: usize = 131079;
+
 // Between two lines: the state, the number of the next line, how many bytes of an unfinished line are held, how many bytes of answers wait, and
 // whether all could be written so far.
 pub struct Script {
@@ -46,7 +49,7 @@ fn make_room(waiting: usize, out: &[u8]) -> Room
     requires { ⌜ (waiting ≤ length (now out)) × (longestAnswer ≤ length (now out)) ⌝ }
     ensures { λ r. ⌜ r .waiting + longestAnswer ≤ length (now (out .entry)) ⌝ }
 {
-    if 131079 <= out.len() - waiting {
+    if LONGEST_ANSWER <= out.len() - waiting {
         return Room {
             waiting,
             open: true,

@@ -1,9 +1,9 @@
 // A script of directives drives every public call of the machine.
-pub mod answer;
-pub mod cut;
+mod answer;
+mod cut;
 mod drive;
-pub mod hex;
-pub mod obey;
-pub mod parse;
+mod hex;
+mod obey;
+mod parse;
 
 pub use drive::run;

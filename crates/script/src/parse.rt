@@ -12,6 +12,11 @@ ghost use Rattle.model.specs.Lists.{same};
 ghost use Rattle.text.specs.Cursor.{Within};
 ghost use Rattle.script.specs.Directive.{longestLine, bytesAt, lengthTold, lengthOf, Spelled, oneField, twoFields, threeFields, hexField, Understood, order, hexOf};
 
+// A longer line is no directive, and no longer buffer is lent.
+const LONGEST_LINE: usize = 262144;
+
+const LONGEST_LENT: usize = 65536;
+
 // The length of a buffer to be lent.
 pub enum Length {
     Bytes(usize),
@@ -49,7 +54,7 @@ pub fn read_length(word: &[u8]) -> Length
             return Length::Wrong;
         }
         v = 10 * v + (b - 48) as usize;
-        if 65536 < v {
+        if LONGEST_LENT < v {
             return Length::Wrong;
         }
         i += 1;
@@ -133,7 +138,7 @@ pub fn parse(text: &[u8], bytes: &mut [u8]) -> Directive
     requires { ⌜ longestLine ≤ 2 * length (now bytes) ⌝ }
     ensures { λ r. ⌜ Understood (order (now (text .entry))) (hexOf (now (text .entry))) (now (bytes .entry)) r (now (bytes .exit)) ⌝ }
 {
-    if 262144 < text.len() {
+    if LONGEST_LINE < text.len() {
         return Directive::Malformed;
     }
     let w = next_word(text, 0);
