@@ -1,0 +1,94 @@
+use Prim.Native.Nat.{_+_, _*_, _-_, _≤_}
+use mathlib.Core.Path.{_≡_, refl, sym, _∙_}
+use native.Mathlib.Omega.{arith}
+use borrow.Author.Needs.{needs}
+use lib.ListN.{length, drop, length-set}
+use Rattle.print.specs.Over.{over}
+use Rattle.script.specs.Hex.{hexed}
+use Rattle.script.proofs.HexLaws.{length-hexed, hexed-next, hexed-end}
+use Rattle.script.proofs.hex.put_hex.Statement.{statement}
+use Rattle.script.proofs.hex.put_hex.Tie as tie
+
+abbrev Inv-loop : tie.InvT-loop
+Inv-loop out₀ at bytes n i₀ k₀ out i k =
+    (i ≤ n) × (n ≡ length bytes) × (k ≡ at + 2 * i) × (at + 2 * n ≤ length out₀) × (length out ≡ length out₀)
+    × (over out₀ at (hexed bytes) ≡ over out k (hexed (drop i bytes)))
+
+abbrev μ-loop : tie.MeasureT-loop
+μ-loop out₀ at bytes n i₀ k₀ out i k = n - i
+
+loop-holds : tie.Need-loop-holds Inv-loop μ-loop
+loop-holds c = (search needs, refl, omega arith, c .before .before .pre, refl, refl)
+
+shared-slice-read-b : tie.Need-shared-slice-read-b Inv-loop μ-loop
+shared-slice-read-b c = search needs
+
+digit-of-requires : tie.Need-digit-of-requires Inv-loop μ-loop
+digit-of-requires c κs = omega (arith, c .shared-slice-known2 .given (c .before .before .loop .i))
+
+slice-write-out : tie.Need-slice-write-out Inv-loop μ-loop
+slice-write-out c = search needs
+
+digit-of-requires-2 : tie.Need-digit-of-requires-2 Inv-loop μ-loop
+digit-of-requires-2 c κs = search needs
+
+add-out : tie.Need-add-out Inv-loop μ-loop
+add-out c = search needs
+
+slice-write-out-2 : tie.Need-slice-write-out-2 Inv-loop μ-loop
+slice-write-out-2 c = simp length-set (omega arith)
+
+add-i : tie.Need-add-i Inv-loop μ-loop
+add-i c = search needs
+
+add-k : tie.Need-add-k Inv-loop μ-loop
+add-k c = search needs
+
+loop-less : tie.Need-loop-less Inv-loop μ-loop
+loop-less c = search needs
+
+loop-again : tie.Need-loop-again Inv-loop μ-loop
+loop-again c =
+    let k = c .before .before .before .before in
+    let st = k .before .before .before in
+    let inv = k .loop .inv in (
+      search needs,
+      refl,
+      omega (arith, inv .2),
+      inv .3,
+      simp length-set (inv .4),
+      rw (c .before .digit-of .ensures, c .digit-of2 .ensures)
+          (inv .5 ∙ hexed-next (st .args .bytes .now) (k .loop .out) (k .loop .i) (k .loop .k) (c .before .before .before .loop-test .taken)),
+    )
+
+same-length : tie.Need-same-length Inv-loop μ-loop
+same-length c = search needs
+
+returns : tie.Need-returns Inv-loop μ-loop
+returns c =
+    let l = c .before in
+    let bytes = l .before .before .before .args .bytes .now in
+    record {
+      place = omega (arith, length-hexed bytes);
+      bytes = sym (l .loop .inv .5 ∙ hexed-end bytes (l .loop .out) (l .loop .i) (l .loop .k) (omega arith));
+    }
+
+pub put-hex-spec : {M : Type 1} → statement M
+put-hex-spec =
+    tie.close
+    (tie.spec
+    Inv-loop
+    μ-loop
+    loop-holds
+    shared-slice-read-b
+    digit-of-requires
+    slice-write-out
+    digit-of-requires-2
+    add-out
+    slice-write-out-2
+    add-i
+    add-k
+    loop-less
+    loop-again
+    same-length
+    returns)

@@ -1,0 +1,63 @@
+use mathlib.Core.Path.{_≡_, refl, sym}
+use native.Mathlib.Omega.{arith}
+use lib.ListN.{length, take}
+use lib.Seq.{take-all, length-take-le}
+use Rattle.script.proofs.AnswerLaws.{said-short}
+use borrow.Author.Needs.{needs}
+use Rattle.script.proofs.obey.say.Statement.{statement}
+use Rattle.script.proofs.obey.say.Tie as tie
+
+slice-aggregate-put-said : tie.Need-slice-aggregate-put-said
+slice-aggregate-put-said c = sym (length-take-le _ _ (search needs))
+
+put-said-requires : tie.Need-put-said-requires
+put-said-requires c κs =
+    let st = c .before .before .before .before .before .before in
+    let r = st .args .r in
+    let reply = st .args .reply .now in
+    let e = length-take-le (r .length) reply (search needs) in
+    omega (arith, said-short (r .number) (take (r .length) reply), e, st .pre)
+
+same-length : tie.Need-same-length
+same-length c = search needs
+
+returns : tie.Need-returns
+returns c =
+    let p = c .before .before in
+    let st = p .before .before .before .before .before .before .before in
+    let r = st .args .r in
+    let reply = st .args .reply .now in
+    let e = length-take-le (r .length) reply (search needs) in
+    record {
+      state = refl;
+      text = p .put-said .ensures;
+      inside = omega (arith, said-short (r .number) (take (r .length) reply), e, st .pre, p .put-said .ensures .place);
+    }
+
+put-said-requires-2 : tie.Need-put-said-requires-2
+put-said-requires-2 c κs =
+    let st = c .before .before .before .before .before in
+    omega (arith, said-short (st .args .r .number) (st .args .reply .now), st .pre)
+
+same-length-2 : tie.Need-same-length-2
+same-length-2 c = search needs
+
+returns-2 : tie.Need-returns-2
+returns-2 c =
+    let st = c .before .before .before .before .before .before .before .before in
+    let r = st .args .r in
+    let reply = st .args .reply .now in
+    let e : take (r .length) reply ≡ reply = take-all (r .length) reply (c .before .before .before .before .if1 .left) in
+    record { state = refl; text = rw e (c .before .before .put-said2 .ensures); inside = omega (arith, said-short (r .number) reply, st .pre, c .before .before .put-said2 .ensures .place) }
+
+pub say-spec : {M : Type 1} → statement M
+say-spec =
+    tie.close
+    (tie.spec
+    slice-aggregate-put-said
+    put-said-requires
+    same-length
+    returns
+    put-said-requires-2
+    same-length-2
+    returns-2)

@@ -1,0 +1,30 @@
+use mathlib.Core.Path.{refl}
+use mathlib.Core.List.{[]}
+use native.Mathlib.Omega.{arith}
+use Rattle.script.proofs.AnswerLaws.{said-short}
+use borrow.Author.Needs.{needs}
+use Rattle.script.proofs.obey.say_begun.Statement.{statement}
+use Rattle.script.proofs.obey.say_begun.Tie as tie
+
+slice-aggregate-put-said : tie.Need-slice-aggregate-put-said
+slice-aggregate-put-said c = search needs
+
+put-said-requires : tie.Need-put-said-requires
+put-said-requires c κs = let st = c .before .before .before in omega (arith, said-short (st .args .r .number) [], st .pre)
+
+same-length : tie.Need-same-length
+same-length c = search needs
+
+returns : tie.Need-returns
+returns c =
+    let p = c .before .before .before in
+    let st = p .before .before .before .before in
+    record {
+      state = refl;
+      text = p .put-said .ensures;
+      inside = omega (arith, said-short (st .args .r .number) [], st .pre, p .put-said .ensures .place);
+    }
+
+pub say-begun-spec : {M : Type 1} → statement M
+say-begun-spec =
+    tie.close (tie.spec slice-aggregate-put-said put-said-requires same-length returns)

@@ -1,0 +1,5 @@
+pub mod Hex
+pub mod Directive
+pub mod Answer
+pub mod Obey
+pub mod Run

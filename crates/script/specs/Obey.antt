@@ -1,0 +1,57 @@
+-- A line of a script carried out, and answered.
+use Prim.Native.Nat.{ℕ, _≤_}
+use mathlib.Core.Path.{_≡_}
+use mathlib.Core.List.{List, []}
+use mathlib.Core.Option.{Option, none, some}
+use lib.ListN.{length, take}
+use Rattle.model.specs.Machine.{startFactory, startImage, began}
+use Rattle.model.specs.Stored.{View, viewOf, Answered, Restarted, ofBegun, lineAnswer, imageAnswer, restartAnswer}
+use Rattle.print.specs.Over.{Wrote}
+use Rattle.script.specs.declared.obey.Obeyed.{Obeyed}
+use Rattle.script.specs.Directive.{Order, line, restart, write, start, factory, unclear, order}
+use Rattle.script.specs.Answer.{said, complaint}
+
+-- what a call gives: the next state, its number, and what it wrote
+pub record Done : Type 0 where
+  pub state : View
+  pub number : ℕ
+  pub text : List ℕ
+
+abbrev pub lent : Answered → Done
+lent a = record { state = a .state; number = a .number; text = take (a .count) (a .buffer) }
+
+abbrev pub alone : Restarted → Done
+alone r = record { state = r .state; number = r .number; text = [] }
+
+-- the call that is ordered; of the buffer b as many bytes are lent as it says
+unfoldable pub done : View → Order → List ℕ → Option Done
+done v (line l n) b = some (lent (lineAnswer v l (take n b)))
+done v restart b = some (alone (restartAnswer v))
+done v (write n) b = some (lent (imageAnswer v (take n b)))
+done v (start image) b = some (alone (ofBegun (startImage image)))
+done v factory b = some (alone (ofBegun (began startFactory 0)))
+done v unclear b = none
+
+-- what is no directive changes nothing
+unfoldable pub nextState : View → Option Done → View
+nextState v none = v
+nextState v (some d) = d .state
+
+-- the answer to line k of the script
+unfoldable pub answer : ℕ → Option Done → List ℕ
+answer k none = complaint k
+answer k (some d) = said (d .number) (d .text)
+
+-- ---- the answer of the code
+
+-- a call was answered: its next state, and its text from place at on
+pub record Answers (d : Done) (before : List ℕ) (at : ℕ) (after : List ℕ) (o : Obeyed) : Type 0 where
+  pub state : viewOf (o .state) ≡ d .state
+  pub text : Wrote (said (d .number) (d .text)) before at after (o .end)
+  pub inside : o .end ≤ length before
+
+-- a line was obeyed, whatever it was
+pub record Obeys (v : View) (k : ℕ) (l b before : List ℕ) (at : ℕ) (after : List ℕ) (o : Obeyed) : Type 0 where
+  pub state : viewOf (o .state) ≡ nextState v (done v (order l) b)
+  pub text : Wrote (answer k (done v (order l) b)) before at after (o .end)
+  pub inside : o .end ≤ length before
