@@ -1,32 +1,15 @@
--- Laws of what is cut: the bytes before an LF, and the bytes that are held.
-use Prim.Native.Nat.{ℕ, zero, suc, _+_, _-_, _≤_, _<_}
+-- Laws of the bytes that are held.
+use Prim.Native.Nat.{ℕ, suc, _+_, _≤_, _<_}
 use mathlib.Core.Path.{_≡_, refl, sym, ap, _∙_}
 use mathlib.Core.List.{List, [], _∷_, _++_, append-assoc}
-use mathlib.Core.Bool.{true, false}
 use native.Mathlib.Omega.{arith}
-use native.Mathlib.Numerals.{add-one}
-use lib.Dec.{eqb}
-use lib.ListN.{length, take, drop, set, getD, length-append, drop-of-length-le}
-use lib.Seq.{drop-cons, take-suc, take-suc-set, take-append-add, take-all}
-use borrow.Author.Tests.{eq-eqb, ne-eqb}
-use Rattle.session.specs.Feed.{before, enough}
+use lib.ListN.{length, take, set, getD, length-append}
+use lib.Seq.{take-suc, take-suc-set, take-append-add, take-all}
+use Rattle.session.specs.Feed.{enough}
 
 pub append-nil : (l : List ℕ) → l ++ [] ≡ l
 append-nil [] = refl
 append-nil (x ∷ l) = ap (λ (t : List ℕ). x ∷ t) (append-nil l)
-
-module _ (l : List ℕ) (i : ℕ) where
-  pub before-here : i < length l → getD l i 0 ≡ 10 → before (drop i l) ≡ 0
-  unfolding before
-  before-here h e = rw (drop-cons l i 0 h) (rw (eq-eqb (getD l i 0) 10 e, before))
-
-  pub before-later : i < length l → (getD l i 0 ≡ 10 → ⊥) → before (drop i l) ≡ suc (before (drop (suc i) l))
-  unfolding before
-  before-later h n = rw (drop-cons l i 0 h) (rw (ne-eqb (getD l i 0) 10 n, before))
-
-  pub before-end : length l ≤ i → before (drop i l) ≡ 0
-  unfolding before
-  before-end h = rw (drop-of-length-le l h)
 
 -- one byte more is held
 pub held-more : (bytes held part : List ℕ) (n i : ℕ) → n < length bytes → i < length part → take n bytes ≡ held ++ take i part →

@@ -9,7 +9,8 @@ use lib.Dec.{eqb}
 use lib.ListN.{length, take}
 use Rattle.model.proofs.Basics.{either}
 use Rattle.model.specs.Memory.{State}
-use Rattle.session.specs.Feed.{Fed, fed, said, outcome, enough, holding, before}
+use Rattle.lines.specs.Before.{before}
+use Rattle.session.specs.Feed.{Fed, fed, said, outcome, enough, holding}
 use Rattle.session.proofs.Cutting.{append-nil}
 use Rattle.session.proofs.Whole.{fed-ends, fed-grows, take-grows}
 
@@ -18,11 +19,11 @@ unfolding fed
 fed-nothing st l = refl
 
 module _ (b : ℕ) (bs : List ℕ) where
-  pub before-now : eqb b 10 ≡ true → before (b ∷ bs) ≡ 0
+  before-now : eqb b 10 ≡ true → before (b ∷ bs) ≡ 0
   unfolding before
   before-now h = rw (h, before)
 
-  pub before-more : eqb b 10 ≡ false → before (b ∷ bs) ≡ suc (before bs)
+  before-more : eqb b 10 ≡ false → before (b ∷ bs) ≡ suc (before bs)
   unfolding before
   before-more h = rw (h, before)
 

@@ -16,18 +16,16 @@ use Rattle.model.specs.Machine.{written}
 use Rattle.model.specs.Stored.{stateOf}
 use Rattle.engine.specs.Fine.{Fine}
 use Rattle.reply.specs.Lines.{Replied}
+use Rattle.lines.specs.Before.{before}
 use Rattle.session.specs.declared.cut.Kept.{Kept}
 use Rattle.session.specs.declared.feed.Answer.{Answer}
-use Rattle.session.specs.Feed.{Held, Fed, fed, ended, said, outcome, enough, holding, printing, before, Keeps}
+use Rattle.session.specs.Feed.{Held, Fed, fed, ended, said, outcome, enough, holding, printing, Keeps}
 use Rattle.session.specs.Blocks.{Answers, Feeds, Ends, heldOf}
 use Rattle.session.specs.declared.feed.Session.{Session}
 use Rattle.model.specs.Lists.{none?}
 use Rattle.session.proofs.Cutting.{append-nil}
 use Rattle.session.proofs.Whole.{fed-append, said-clipped, state-clipped}
-use Rattle.session.proofs.Lines.{begun, before-now, before-more, fed-nothing, fed-ended, fed-held}
-use Rattle.model.proofs.Basics.{either}
-use mathlib.Core.Logic.{⊎-elim}
-use lib.Dec.{eqb}
+use Rattle.session.proofs.Lines.{begun, fed-nothing, fed-ended, fed-held}
 
 -- ---- one text behind another
 
@@ -80,16 +78,6 @@ more : (st₀ : State) (block : List ℕ) (at n : ℕ) (st : State) → at ≤ l
     fed st₀ [] (take (at + n) block) ≡ printing (fed st₀ [] (take at block) .output) (fed st [] (take n (drop at block)))
 more st₀ block at n st h e =
     ap (fed st₀ []) (take-more block at n h) ∙ fed-append (take at block) st₀ [] (take n (drop at block)) ∙ rw e refl
-
--- a line ends within its block
-before-within : (l : List ℕ) → before l ≤ length l
-unfolding before
-before-within [] = omega arith
-before-within (b ∷ bs) =
-    ⊎-elim (λ e. rw (before-now b bs e) (omega arith)) (λ e. rw (before-more b bs e) (omega (arith, before-within bs))) (either (eqb b 10))
-
-pub end-within : (block : List ℕ) (at end : ℕ) → at ≤ length block → end ≡ at + before (drop at block) → end ≤ length block
-end-within block at end h e = omega (arith, e, before-within (drop at block), length-drop at block)
 
 -- the line from a place on
 abbrev pub lineAt : List ℕ → ℕ → List ℕ

@@ -55,11 +55,6 @@ fed st l (b ∷ bs) =
 
 -- ---- what the code cuts
 
--- how many bytes stand before the first LF
-unfoldable pub before : List ℕ → ℕ
-before [] = 0
-before (b ∷ bs) = elim (eqb b 10) [ true ↦ 0 | false ↦ suc (before bs) ]
-
 -- the stored bytes are so much of a line as is enough
 pub record Keeps (line : List ℕ) (k : Kept) : Type 0 where
   pub bytes : take (k .count) (k .bytes) ≡ take enough line

@@ -1,29 +1,13 @@
-// Where a line ends in a block, and what is held of a line that no block has ended yet.
-ghost use mathlib.Core.Path.{_≡_};
+// What is held of a line that no block has ended yet.
 ghost use mathlib.Core.List.{_++_};
-ghost use Prim.Native.Nat.{_+_, _≤_};
-ghost use lib.ListN.{length, take, drop};
-ghost use Rattle.session.specs.Feed.{before, enough, Keeps};
+ghost use Prim.Native.Nat.{_≤_};
+ghost use lib.ListN.{take};
+ghost use Rattle.session.specs.Feed.{enough, Keeps};
 
 // The bytes of an unfinished line: the first count. Of a line that is too long, one byte too many is enough.
 pub struct Kept {
     pub bytes: [u8; 121],
     pub count: usize,
-}
-
-// The place of the first LF from a place on, or the length where there is none.
-pub fn line_end(block: &[u8], at: usize) -> usize
-    requires { ⌜ at ≤ length (now block) ⌝ }
-    ensures { λ r. ⌜ r ≡ at + before (drop at (now (block .entry))) ⌝ }
-{
-    let mut i = at;
-    while i < block.len() {
-        if block[i] == 10 {
-            return i;
-        }
-        i += 1;
-    }
-    i
 }
 
 // The held bytes, and behind them as many of the part's as are enough.

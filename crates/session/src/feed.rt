@@ -1,8 +1,8 @@
 // A block of input, fed to the machine line by line.
 use crate::cut::Kept;
 use crate::cut::keep;
-use crate::cut::line_end;
 use engine::line::obey;
+use lines::line_end;
 use model::State;
 use print::put_byte;
 use print::put_decimal;

@@ -1,3 +1,3 @@
 // A session of ksrun: input comes in blocks, lines are cut out of it, and their answers go into a lent buffer.
-pub mod cut; // cut.rt: where a line ends, and what is held of one that does not end
+pub mod cut; // cut.rt: what is held of a line that does not end
 pub mod feed; // feed.rt: a block fed to the machine

@@ -3,14 +3,15 @@ use mathlib.Core.Path.{_≡_, sym}
 use native.Mathlib.Omega.{arith}
 use lib.ListN.{length}
 use lib.Seq.{length-take-le}
-use Rattle.session.proofs.Running.{end-within, held-on, held-ends}
+use Rattle.lines.proofs.Laws.{end-inside}
+use Rattle.session.proofs.Running.{held-on, held-ends}
 use borrow.Author.Needs.{needs}
 use Rattle.session.proofs.feed.feed.Statement.{statement}
 use Rattle.session.proofs.feed.feed.Tie as tie
 use Rattle.session.proofs.feed.feed.Reads as reads
 use Rattle.session.proofs.feed.feed.Lts as lts
 use Rattle.session.proofs.cut.keep.Reads as keep-reads
-use Rattle.session.proofs.cut.line_end.Reads as line-end-reads
+use Rattle.lines.proofs.line_end.Reads as line-end-reads
 use Rattle.session.proofs.feed.answer_line.Reads as answer-line-reads
 use Rattle.session.proofs.feed.nothing_held.Reads as nothing-held-reads
 use Rattle.session.proofs.feed.whole_lines.Reads as whole-lines-reads
@@ -30,7 +31,7 @@ line-end-requires c κs = search needs
 slice-aggregate-keep : tie.Need-slice-aggregate-keep
 slice-aggregate-keep c =
     let start = c .before .before .before .before .before .before .before .before in
-    sym (length-take-le _ (start .args .block .now) (end-within (start .args .block .now) 0 _ (omega arith) (c .before .line-end .ensures)))
+    sym (length-take-le _ (start .args .block .now) (end-inside (start .args .block .now) 0 _ (omega arith) (c .before .line-end .ensures)))
 
 keep-requires : tie.Need-keep-requires
 keep-requires c κs = search needs
@@ -59,7 +60,7 @@ nothing-held-requires c κs = search needs
 add-t20 : tie.Need-add-t20
 add-t20 c =
     let start = c .before .before .before .before .before .before .before .before .before .before .before .before .before .before .before .before .before .before in
-    record { fits = omega (arith, end-within (start .args .block .now) 0 _ (omega arith) (c .before .before .before .before .before .before .before .before .before .before .before .line-end .ensures), c .before .before .before .before .before .before .before .before .if2 .left, start .good .1 .0 .0) }
+    record { fits = omega (arith, end-inside (start .args .block .now) 0 _ (omega arith) (c .before .before .before .before .before .before .before .before .before .before .before .line-end .ensures), c .before .before .before .before .before .before .before .before .if2 .left, start .good .1 .0 .0) }
 
 same-length-2 : tie.Need-same-length-2
 same-length-2 c = search needs
@@ -67,7 +68,7 @@ same-length-2 c = search needs
 returns-3 : tie.Need-returns-3
 returns-3 c =
     let start = c .before .before .before .before .before .before .before .before .before .before .before .before .before .before .before .before .before .before in
-    let w = end-within (start .args .block .now) 0 _ (omega arith) (c .before .before .before .before .before .before .before .before .before .before .before .line-end .ensures) in
+    let w = end-inside (start .args .block .now) 0 _ (omega arith) (c .before .before .before .before .before .before .before .before .before .before .before .line-end .ensures) in
     held-ends (start .args .s) (start .args .block .now) (start .args .out .now) _ (c .before .before .before .before .before .before .before .before .before .before .before .line-end .result) (c .before .before .before .before .before .before .before .before .before .keep .result) (c .before .before .before .before .answer-line .result) (c .nothing-held .result) (start .pre .1 .0) (c .before .before .before .before .before .before .before .before .before .before .before .line-end .ensures)
     (omega (arith, w, c .before .before .before .before .before .before .before .before .if2 .left)) (c .before .before .before .before .before .before .before .before .before .keep .ensures) (c .before .before .before .before .answer-line .ensures) (c .nothing-held .ensures)
 

@@ -5,14 +5,15 @@ use native.Mathlib.Omega.{arith}
 use borrow.Author.Needs.{needs}
 use lib.ListN.{length, take, drop, length-take, length-drop}
 use Rattle.model.specs.Stored.{stateOf}
-use Rattle.session.specs.Feed.{before}
-use Rattle.session.proofs.Running.{Run, run-start, run-turn, run-whole, run-stop, run-none, end-within, keeps-rest, moved}
+use Rattle.lines.specs.Before.{before}
+use Rattle.lines.proofs.Laws.{end-inside}
+use Rattle.session.proofs.Running.{Run, run-start, run-turn, run-whole, run-stop, run-none, keeps-rest, moved}
 use Rattle.session.proofs.feed.whole_lines.Statement.{statement}
 use Rattle.session.proofs.feed.whole_lines.Tie as tie
 use Rattle.session.proofs.feed.whole_lines.Reads as reads
 use Rattle.session.proofs.feed.whole_lines.Lts as lts
 use Rattle.session.proofs.cut.keep.Reads as keep-reads
-use Rattle.session.proofs.cut.line_end.Reads as line-end-reads
+use Rattle.lines.proofs.line_end.Reads as line-end-reads
 use Rattle.session.proofs.feed.answer_line.Reads as answer-line-reads
 use Rattle.session.proofs.feed.nothing_held.Reads as nothing-held-reads
 
@@ -64,7 +65,7 @@ part-answer-line-start : tie.Need-part-answer-line-start Inv-loop μ-loop
 part-answer-line-start c = search needs
 
 part-answer-line-end : tie.Need-part-answer-line-end Inv-loop μ-loop
-part-answer-line-end c = omega (arith, end-within _ _ _ (c .before .before .before .loop .inv .within) (c .before .line-end .ensures))
+part-answer-line-end c = omega (arith, end-inside _ _ _ (c .before .before .before .loop .inv .within) (c .before .line-end .ensures))
 
 sub-answer-line-2 : tie.Need-sub-answer-line-2 Inv-loop μ-loop
 sub-answer-line-2 c = omega (arith, c .before .before .before .before .loop .inv .room, c .before .before .before .before .loop .inv .long)
@@ -86,16 +87,16 @@ add-written c =
     record { fits = omega (arith, l .inv .room, c .before .before .before .before .answer-line .ensures .room, length-take (length (l .out) - l .written) (drop (l .written) (l .out)), length-drop (l .written) (l .out), l .inv .long, c .before .before .before .before .before .before .before .before .before .before .before .before .before .good .1 .1 .0 .0) }
 
 add-at : tie.Need-add-at Inv-loop μ-loop
-add-at c = record { fits = omega (arith, end-within _ _ _ (c .before .before .before .before .before .before .before .before .before .before .loop .inv .within) (c .before .before .before .before .before .before .before .before .line-end .ensures), c .before .before .before .before .before .before .before .if1 .left, c .before .before .before .before .before .before .before .before .before .before .before .before .before .good .1 .0 .0) }
+add-at c = record { fits = omega (arith, end-inside _ _ _ (c .before .before .before .before .before .before .before .before .before .before .loop .inv .within) (c .before .before .before .before .before .before .before .before .line-end .ensures), c .before .before .before .before .before .before .before .if1 .left, c .before .before .before .before .before .before .before .before .before .before .before .before .before .good .1 .0 .0) }
 
 loop-less : tie.Need-loop-less Inv-loop μ-loop
-loop-less c = omega (arith, end-within _ _ _ (c .before .before .before .before .before .before .before .before .before .before .loop .inv .within) (c .before .before .before .before .before .before .before .before .line-end .ensures), c .before .before .before .before .before .before .before .if1 .left, c .before .before .before .before .before .before .before .before .line-end .ensures)
+loop-less c = omega (arith, end-inside _ _ _ (c .before .before .before .before .before .before .before .before .before .before .loop .inv .within) (c .before .before .before .before .before .before .before .before .line-end .ensures), c .before .before .before .before .before .before .before .if1 .left, c .before .before .before .before .before .before .before .before .line-end .ensures)
 
 loop-again : tie.Need-loop-again Inv-loop μ-loop
 loop-again c =
     let start = c .before .before .before .before .before .before .before .before .before .before .before .before .before in
     let l = c .before .before .before .before .before .before .before .before .before .before .loop in
-    let w = end-within _ _ _ (c .before .before .before .before .before .before .before .before .before .before .loop .inv .within) (c .before .before .before .before .before .before .before .before .line-end .ensures) in
+    let w = end-inside _ _ _ (c .before .before .before .before .before .before .before .before .before .before .loop .inv .within) (c .before .before .before .before .before .before .before .before .line-end .ensures) in
     let size : c .before .before .before .before .before .before .before .before .line-end .result - l .at ≡ before (drop (l .at) (start .args .block .now)) = omega (arith, c .before .before .before .before .before .before .before .before .line-end .ensures) in
     run-turn (stateOf (start .args .s)) (start .args .block .now) (start .args .out .now) (l .out) (l .state) (l .at) (l .written) (l .inv) (c .before .before .before .before .before .before .before .before .line-end .result) (c .before .before .before .before .before .before .before .before .line-end .ensures)
     (omega (arith, w, c .before .before .before .before .before .before .before .if1 .left)) _ _ (c .before .before .before .before .answer-line .result)
