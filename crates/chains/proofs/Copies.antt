@@ -1,12 +1,12 @@
 -- Copying numbers out of a stored memory, one system a turn.
-use Prim.Native.Nat.{ℕ, _+_, _*_, min, _<_}
-use mathlib.Core.Path.{_≡_, sym, ap, _∙_}
+use Prim.Native.Nat.{ℕ, zero, suc, _+_, _*_, min, _<_, _≤_}
+use mathlib.Core.Path.{_≡_, refl, sym, ap, _∙_}
 use mathlib.Core.List.{List, [], _∷_, _++_, map, map-append}
 use native.Mathlib.Omega.{arith}
 use native.Mathlib.Decide.{decLt}
 use native.Mathlib.Numerals.{add-one}
 use lib.ListN.{length, getD, take, set, length-map, length-set}
-use lib.Seq.{take-suc, take-suc-set, take-all, getD-set-same, getD-set-other}
+use lib.Seq.{take-suc, take-suc-set, take-take, take-all, getD-set-same, getD-set-other}
 use Rattle.model.specs.declared.Kind.the-variants.{Ksd}
 use Rattle.model.specs.declared.System.{System as StoredSystem}
 use Rattle.model.specs.Stored.{systemOf}
@@ -34,6 +34,16 @@ pub one-more : (l : List StoredSystem) (ps : List ℕ) (i : ℕ) (d : StoredSyst
 one-more l ps i d h k e =
     rw (add-one i, take-suc-set ps i (getD l i d .pred), take-suc l i d, map-append systemOf (take i l) (getD l i d ∷ []), map-append (λ (s : System). s .pred) (map systemOf (take i l)) (systemOf (getD l i d) ∷ []))
     (ap (λ (r : List ℕ). r ++ (getD l i d .pred ∷ [])) e)
+
+-- what is laid for more systems holds for fewer
+fewer : (l : List StoredSystem) (n i : ℕ) → n ≤ i → take n (predsBefore l i) ≡ predsBefore l n
+fewer l zero i h = refl
+fewer l (suc n) zero h = absurd (omega arith)
+fewer [] (suc n) (suc i) h = refl
+fewer (s ∷ l) (suc n) (suc i) h = ap (λ (ps : List ℕ). s .pred ∷ ps) (fewer l n i (omega arith))
+
+pub fewer-laid : (l : List StoredSystem) (ps : List ℕ) (n i : ℕ) → n ≤ i → take i ps ≡ predsBefore l i → take n ps ≡ predsBefore l n
+fewer-laid l ps n i h e = sym (take-take n i ps h) ∙ ap (take n) e ∙ fewer l n i h
 
 -- only to fill a place where a list has no system
 abbrev pub unset : StoredSystem

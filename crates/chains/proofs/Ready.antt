@@ -21,7 +21,7 @@ use Rattle.chains.specs.Flat.{predsOf}
 use Rattle.chains.specs.Frames.{frameOf, framesOf, framed}
 use Rattle.chains.specs.Walk.{walked, Walkable, Laid, Enough}
 use Rattle.chains.proofs.Same.{frames-steps, frames-no-ring, frames-resultant}
-use Rattle.chains.proofs.Reaching.{few-steps}
+use Rattle.chains.proofs.Reaching.{enough-from}
 
 -- ---- a well-formed memory can be walked
 
@@ -86,8 +86,7 @@ module _ (l : List System) (w : Walkable l) (xs : List ℤ) (ts ps : List ℕ) (
   pub ready-at : (q : ℕ) → q ≤ length l → Enough (framed xs ts ps) q maxSystems
   ready-at q h =
       let n : length (framesOf l) ≡ length l = length-map l frameOf in
-      subst (λ (k : List System). Enough k q maxSystems) (sym stands)
-      (record { there = omega arith; deep = rw (frames-steps l q) (few-steps l w q h); bounded = omega arith })
+      subst (λ (k : List System). Enough k q maxSystems) (sym stands) (enough-from (framesOf l) (walkable-frames l w) q (omega arith))
 
   pub ready-walk : (q : ℕ) → walked (framed xs ts ps) q ≡ walked l q
   ready-walk q = rw stands (λ d. record { pose = frames-resultant l q d; steps = frames-steps l q d })

@@ -1,15 +1,15 @@
 -- What the walk to the predecessor needs and what it reaches.
-use Prim.Native.Nat.{ℕ, _+_, _*_, _≤_}
+use Prim.Native.Nat.{ℕ, _+_, _*_, _≤_, _<_}
 use mathlib.Core.Path.{_≡_}
 use mathlib.Core.Bool.{true}
 use mathlib.Core.List.{List}
 use lib.IntN.{ℤ}
 use lib.ListN.{length}
 use Rattle.model.specs.Limits.{maxSystems, offsetLimit}
-use Rattle.model.specs.Pose.{Pose, rotOf}
+use Rattle.model.specs.Pose.{Pose, neutral, followed, rotOf}
 use Rattle.model.specs.Memory.{System, systemAt}
 use Rattle.model.specs.Chain.{steps, noRing, resultant}
-use Rattle.pose.specs.Poses.{poseOf, Within}
+use Rattle.pose.specs.Poses.{poseOf, Within, reach}
 use Rattle.chains.specs.declared.frames.Reached.{Reached}
 use Rattle.chains.specs.Frames.{offsetAt, turnsAt, framed}
 
@@ -25,6 +25,18 @@ walkOf r = record { pose = poseOf (r .pose); steps = r .steps }
 abbrev pub walked : List System → ℕ → Walk
 walked l place = record { pose = resultant l place; steps = steps l place }
 
+-- no link yet
+abbrev pub atFixed : Walk
+atFixed = record { pose = neutral; steps = 0 }
+
+-- a walk, and a system's own pose followed on from it
+abbrev pub linkOn : Walk → Pose → Walk
+linkOn w own = record { pose = followed (w .pose) own; steps = w .steps + 1 }
+
+-- of a place up to i, it is known what is reached there
+abbrev pub KnownUpTo : List System → ℕ → ℕ → Walk → Type 0
+KnownUpTo l i place w = place ≤ i → w ≡ walked l place
+
 -- every chain ends, and no sum on the way grows too large. Every well-formed memory has it (`walkable` in proofs/Ready.antt)
 pub record Walkable (l : List System) : Type 0 where
   pub few : length l ≤ maxSystems
@@ -39,6 +51,13 @@ poseAt xs ts i = record { at = offsetAt xs i; rot = rotOf (turnsAt ts i) }
 -- system i has its numbers
 abbrev pub Holds : List ℤ → List ℕ → ℕ → Type 0
 Holds xs ts i = (i * 3 + 3 ≤ length xs) × (i * 3 + 3 ≤ length ts)
+
+-- system i can be followed on from a walk: its numbers are there, and no sum grows too large
+pub record Linkable (xs : List ℤ) (ts : List ℕ) (i : ℕ) (w : Walk) : Type 0 where
+  pub numbers : Holds xs ts i
+  pub near : Within reach (w .pose .at)
+  pub own : Within reach (offsetAt xs i)
+  pub steps : w .steps < maxSystems
 
 -- every system has its numbers, and a walk along them ends
 pub record Laid (xs : List ℤ) (ts ps : List ℕ) : Type 0 where

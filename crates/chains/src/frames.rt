@@ -5,13 +5,14 @@ use model::Turns;
 use model::Vec3;
 use pose::Pose;
 ghost use mathlib.Core.Path.{_≡_};
-ghost use Prim.Native.Nat.{_≤_};
+ghost use Prim.Native.Nat.{_+_, _≤_, _<_};
+ghost use lib.ListN.{length, getD};
 ghost use Rattle.model.specs.Limits.{maxSystems};
 ghost use Rattle.model.specs.Stored.{systemsOf};
 ghost use Rattle.pose.specs.Poses.{poseOf};
 ghost use Rattle.chains.specs.Flat.{predsOf};
 ghost use Rattle.chains.specs.Frames.{framed, framesOf};
-ghost use Rattle.chains.specs.Walk.{walkOf, walked, poseAt, Holds, Laid, Enough};
+ghost use Rattle.chains.specs.Walk.{walkOf, walked, atFixed, linkOn, KnownUpTo, poseAt, Holds, Linkable, Laid, Enough};
 
 // Own offsets and turns, three numbers to a system.
 pub struct Frames {
@@ -69,6 +70,26 @@ fn own(offsets: &[i64], turns: &[u8], i: usize) -> Pose
     Pose::of(t, s)
 }
 
+// What is reached at a fixed system, before any link.
+pub fn unmoved() -> Reached
+    ensures { λ r. ⌜ walkOf r ≡ atFixed ⌝ }
+{
+    let pose = Pose::NEUTRAL;
+    Reached { pose, steps: 0 }
+}
+
+// One link on: the own pose of system i followed on from what its predecessor reached.
+fn linked(before: Reached, offsets: &[i64], turns: &[u8], i: usize) -> Reached
+    requires { ⌜ Linkable (now offsets) (now turns) i (walkOf before) ⌝ }
+    ensures { λ r. ⌜ walkOf r ≡ linkOn (walkOf before) (poseAt (now (offsets .entry)) (now (turns .entry)) i) ⌝ }
+{
+    let own_pose = own(offsets, turns, i);
+    let so_far = before.pose;
+    let pose = so_far.follow(own_pose);
+    let steps = before.steps + 1;
+    Reached { pose, steps }
+}
+
 // The resultant of a place and its steps, by a walk to its predecessor with one link less of depth. For a well-formed
 // memory a depth of 16 is enough.
 pub fn reach(offsets: &[i64], turns: &[u8], preds: &[u8], place: usize, depth: usize) -> Reached
@@ -78,15 +99,25 @@ pub fn reach(offsets: &[i64], turns: &[u8], preds: &[u8], place: usize, depth: u
     ensures { λ r. ⌜ r .steps ≤ maxSystems ⌝ }
 {
     if place == 0 {
-        let pose = Pose::NEUTRAL;
-        return Reached { pose, steps: 0 };
+        return unmoved();
     }
     let i = place - 1;
     let pred = preds[i] as usize;
     let before = reach(offsets, turns, preds, pred, depth - 1);
-    let own_pose = own(offsets, turns, i);
-    let so_far = before.pose;
-    let pose = so_far.follow(own_pose);
-    let steps = before.steps + 1;
-    Reached { pose, steps }
+    linked(before, offsets, turns, i)
+}
+
+// The resultant of system i: where its predecessor's place comes before its own, one link on from what is known to be
+// reached there; else by a walk.
+pub fn reach_from(before: Reached, offsets: &[i64], turns: &[u8], preds: &[u8], i: usize) -> Reached
+    requires { ⌜ Laid (now offsets) (now turns) (now preds) ⌝ }
+    requires { ⌜ i < length (now preds) ⌝ }
+    requires { ⌜ KnownUpTo (framed (now offsets) (now turns) (now preds)) i (getD (now preds) i 0) (walkOf before) ⌝ }
+    ensures { λ r. ⌜ walkOf r ≡ walked (framed (now (offsets .entry)) (now (turns .entry)) (now (preds .entry))) (i + 1) ⌝ }
+{
+    let pred = preds[i] as usize;
+    if pred <= i {
+        return linked(before, offsets, turns, i);
+    }
+    reach(offsets, turns, preds, i + 1, 16)
 }

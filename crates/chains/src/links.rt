@@ -26,14 +26,15 @@ pub fn held(count: u8) -> usize
     if count < 16 { count as usize } else { 16 }
 }
 
-// The links of a memory, whatever it holds: a predecessor's place may lie beyond the last system.
+// The links of a memory, whatever it holds: a predecessor's place may lie beyond the last system. All 16 are laid flat, so that the number of turns is
+// known to the compiler and it copies no memory.
 pub fn links_of(m: Memory) -> Links
     ensures { λ r. ⌜ LinksOf (systemsOf m) (r .preds) (r .count) ⌝ }
 {
     let count = held(m.count);
     let mut preds = [0u8; 16];
     let mut i = 0;
-    while i < count {
+    while i < 16 {
         preds[i] = m.systems[i].pred;
         i += 1;
     }

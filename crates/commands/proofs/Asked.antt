@@ -1,25 +1,26 @@
 -- The ladder's conditions, asked by name in the definitions and of what the names were found to mean in the code.
-use Prim.Native.Nat.{ℕ, zero, suc, min, _<_}
-use mathlib.Core.Path.{_≡_, refl, ap}
+use Prim.Native.Nat.{ℕ, zero, suc}
+use mathlib.Core.Path.{_≡_, refl, sym, ap, _∙_}
 use mathlib.Core.Bool.{Bool, not, _&&_, _||_}
 use mathlib.Core.List.{List}
+use mathlib.Core.Option.{Option}
 use native.Mathlib.Omega.{arith}
-use native.Mathlib.Decide.{decLt}
-use borrow.Author.Tests.{ne-eqb, lt-ltb, le-leb, lt-leb}
-use lib.Dec.{eqb, leb, ltb}
+use borrow.Author.Tests.{ne-eqb, lt-ltb}
+use lib.Dec.{eqb, ltb}
 use lib.ListN.{length}
 use Rattle.model.specs.declared.Kind.{Kind}
 use Rattle.model.specs.declared.Enabled.{Enabled}
-use Rattle.model.specs.declared.Memory.{Memory as StoredMemory}
 use Rattle.model.specs.Lists.{same}
-use Rattle.model.specs.Memory.{System, Memory, State, isUser, placeNamed, named}
+use Rattle.model.specs.Memory.{System, Memory, State, Ref, refOr, systemAt, isUser, named}
 use Rattle.model.specs.Use.{nameInUse}
 use Rattle.model.specs.Refusals.{locked, wrongPred, otherType, atOrBefore, noRoom}
-use Rattle.model.specs.Stored.{systemsOf, memoryOf}
 use Rattle.model.proofs.Named.{named-place}
 use Rattle.chains.specs.Flat.{predsOf, linkedBy, memoryBy}
 use Rattle.chains.proofs.Same.{links-on-chain, links-in-use}
-use Rattle.memory.proofs.Laws.{length-systems}
+use Rattle.memory.specs.declared.find.Found.{Found}
+use Rattle.memory.specs.declared.find.Found.the-variants.{User, Fixed, Absent}
+use Rattle.memory.specs.Found.{foundRef, foundPlace}
+use Rattle.memory.specs.Put.{holding}
 use Rattle.commands.specs.declared.subject.Subject.{Subject}
 use Rattle.commands.specs.Subject.{Tells}
 use Rattle.commands.specs.Conditions.{lockedAt, otherAt, wrongAt, usedAt, beforeAt, fullAt}
@@ -27,6 +28,13 @@ use Rattle.commands.specs.Conditions.{lockedAt, otherAt, wrongAt, usedAt
 pub new-place : (k : ℕ) → eqb k 0 ≡ not (ltb 0 k)
 new-place zero = refl
 new-place (suc k) = rw (ne-eqb (suc k) 0 (λ e. omega arith), lt-ltb 0 (suc k) (omega arith))
+
+-- the place of what was found, and of the system that it is
+found-place : (l : List System) (f : Found) → foundPlace f ≡ refOr (foundRef l f) .place
+unfolding foundPlace foundRef refOr
+found-place l (User k) = refl
+found-place l (Fixed g) = refl
+found-place l Absent = refl
 
 -- ---- of a name
 
@@ -38,9 +46,21 @@ module _ (m : Memory) (n : List ℕ) (x : Subject) (t : Tells m n x) where
   unfolding otherType isUser
   other-is k = rw (t .place-is, t .kind-is)
 
-  pub used-is : usedAt m (x .place) ≡ nameInUse m n
+  -- e is what is enabled
+  pub used-is : (e : Enabled) → e ≡ m .enabled → usedAt (holding (m .systems) e) (x .place) ≡ nameInUse m n
   unfolding nameInUse isUser
-  used-is = rw (t .place-is)
+  used-is e q = rw (q, t .place-is)
+
+  -- count is that of the systems
+  pub full-is : (count : ℕ) → count ≡ length (m .systems) → fullAt (x .place) count ≡ noRoom m n
+  unfolding noRoom isUser
+  full-is count q = rw (q, t .place-is)
+
+  -- the type of what was found
+  pub found-kind : x .kind ≡ systemAt (m .systems) (foundPlace (x .found)) .kind
+  found-kind =
+      let place = found-place (m .systems) (x .found) ∙ ap (λ (o : Option Ref). refOr o .place) (t .found-is) ∙ named-place m n in
+      t .kind-is ∙ ap (λ (q : ℕ). systemAt (m .systems) q .kind) (sym place)
 
   -- the other name, and whether it is the same
   module _ (b : List ℕ) (y : Subject) (s : Tells m b y) where
@@ -52,25 +72,10 @@ module _ (m : Memory) (n : List ℕ) (x : Subject) (t : Tells m n x) where
     unfolding atOrBefore isUser
     before-is equal e = rw (e, t .place-is, s .place-is, named-place m b)
 
--- a stored count and the systems that it stands for reach the limit together
-pub full-count : (m : StoredMemory) → length (m .systems) ≡ 16 → leb 16 (m .count) ≡ leb 16 (length (systemsOf m))
-full-count m long = go (decLt (m .count) 16)
-  where
-    n : length (systemsOf m) ≡ min (m .count) 16
-    n = length-systems m (min (m .count) 16) long refl
-
-    go : Dec (m .count < 16) → leb 16 (m .count) ≡ leb 16 (length (systemsOf m))
-    go (yes h) = rw (n, lt-leb 16 (m .count) h, lt-leb 16 (min (m .count) 16) (omega arith))
-    go (no h) = rw (n, le-leb 16 (m .count) (omega arith), le-leb 16 (min (m .count) 16) (omega arith))
-
-pub full-is : (m : StoredMemory) (n : List ℕ) (x : Subject) → length (m .systems) ≡ 16 → Tells (memoryOf m) n x → fullAt (x .place) (m .count) ≡ noRoom (memoryOf m) n
-unfolding noRoom isUser
-full-is m n x long t = rw (t .place-is) (ap (λ (b : Bool). not (ltb 0 (placeNamed (systemsOf m) n)) && b) (full-count m long))
-
 -- ---- over flat links
 
 module _ (l : List System) (ps : List ℕ) (links : ps ≡ predsOf l) where
-  pub flat-used : (e : Enabled) (k : ℕ) → usedAt (memoryBy ps e) k ≡ usedAt (record { systems = l; enabled = e }) k
+  pub flat-used : (e : Enabled) (k : ℕ) → usedAt (memoryBy ps e) k ≡ usedAt (holding l e) k
   flat-used e k = ap (λ (t : Bool). ltb 0 k && t) (links-in-use l ps links e k)
 
   pub flat-before : (k : ℕ) (equal : Bool) (q : ℕ) → beforeAt (linkedBy ps) k equal q ≡ beforeAt l k equal q

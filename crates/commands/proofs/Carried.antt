@@ -1,4 +1,4 @@
--- What a change gives, by its number, and what a ladder that was passed says of the places.
+-- What is decided of a change, by its number, and what a ladder that was passed says of the places.
 use Prim.Native.Nat.{ℕ, _<_, _≤_}
 use mathlib.Core.Path.{_≡_, refl, sym, ap, _∙_}
 use mathlib.Core.Bool.{Bool, true, false}
@@ -10,31 +10,64 @@ use lib.ListN.{length}
 use Rattle.model.specs.declared.Kind.{Kind}
 use Rattle.model.specs.declared.Vec3.{Vec3}
 use Rattle.model.specs.declared.Turns.{Turns}
+use Rattle.model.specs.declared.System.{System as StoredSystem}
 use Rattle.model.specs.declared.Memory.{Memory as StoredMemory}
 use Rattle.model.specs.declared.State.{State as StoredState}
 use Rattle.model.specs.Memory.{Memory, State, isUser, placeNamed}
 use Rattle.model.specs.Request.{Change, define, link, copy, remove}
 use Rattle.model.specs.Refusals.{Rung, first, changeLadder, absent, noRoom}
-use Rattle.model.specs.Effects.{put, fresh, changed}
-use Rattle.model.specs.Stored.{systemsOf, memoryOf, memoryShaped, shaped}
-use Rattle.model.proofs.Basics.{and-split, or-false}
+use Rattle.model.specs.Effects.{withVolatile, put, fresh, changed}
+use Rattle.model.specs.Stored.{systemOf, systemsOf, memoryOf, stateOf, nameShaped}
+use Rattle.model.proofs.Basics.{or-false}
 use Rattle.model.proofs.Named.{place-within, present-user}
 use Rattle.memory.specs.Put.{putAt}
 use Rattle.memory.proofs.ByName.{put-by-place}
-use Rattle.memory.proofs.Laws.{length-systems}
 use Rattle.commands.specs.Given.{given, givenBy, accepts, refuses}
-use Rattle.commands.proofs.Asked.{full-count}
+use Rattle.commands.specs.declared.subject.Looked.{Looked}
+use Rattle.commands.specs.declared.changed.Deed.{Deed}
+use Rattle.commands.specs.declared.changed.Deed.the-variants.{SetError, Put}
+use Rattle.commands.specs.declared.changed.Decision.{Decision}
+use Rattle.commands.specs.Done.{done, Fits, Decides}
+use Rattle.commands.specs.Subject.{Sees}
 
 -- ---- the number decides
 
 module _ (st : State) (c : Change) (n : ℕ) (e : n ≡ first (changeLadder st (st .volatile) c)) where
-  pub given-refused : (n ≡ 0 → ⊥) → given st c ≡ refuses st n
+  given-refused : (n ≡ 0 → ⊥) → given st c ≡ refuses st n
   unfolding given givenBy
   given-refused z = ap (givenBy st c) (sym e) ∙ rw (ne-eqb n 0 z, givenBy)
 
-  pub given-accepted : n ≡ 0 → given st c ≡ accepts (changed st (st .volatile) c)
+  given-accepted : n ≡ 0 → given st c ≡ accepts (changed st (st .volatile) c)
   unfolding given givenBy
   given-accepted z = ap (givenBy st c) (sym e) ∙ rw (eq-eqb n 0 z, givenBy)
+
+-- a decision of this number, that does this, and whose system can be stored
+abbrev Decided : ℕ → Deed → Decision → Type 0
+Decided n deed d = (d .number ≡ n) × (d .deed ≡ deed) × (nameShaped (d .system) ≡ true)
+
+module _ (s : StoredState) (c : Change) (n : ℕ) (e : n ≡ first (changeLadder (stateOf s) (memoryOf (s .volatile)) c)) where
+  abbrev st : State
+  st = stateOf s
+
+  pub decides-refused : (d : Decision) → (n ≡ 0 → ⊥) → Decided n (SetError n) d → Decides s c d
+  unfolding done Fits
+  decides-refused d z p =
+      record {
+        given-is = (λ i. record { state = done (p .1 i) (systemOf (d .system)) st; number = p .0 i }) ∙ sym (given-refused st c n e z);
+        doable = record { fits = rw (p .1, Fits) tt; named = p .2 };
+      }
+
+  pub decides-accepted : (d : Decision) (deed : Deed) → n ≡ 0 → Decided 0 deed d → Fits deed (s .volatile) → done deed (systemOf (d .system)) st ≡ changed st (st .volatile) c → Decides s c d
+  decides-accepted d deed z p f q =
+      record {
+        given-is = (λ i. record { state = done (p .1 i) (systemOf (d .system)) st; number = p .0 i }) ∙ ap accepts q ∙ sym (given-accepted st c n e z);
+        doable = record { fits = rw (p .1) f; named = p .2 };
+      }
+
+  -- x is put at the place k
+  pub decides-put : (d : Decision) (k : ℕ) (x : StoredSystem) → n ≡ 0 → d ≡ record { number = 0; deed = Put k; system = x } → nameShaped x ≡ true → (k ≤ 16) × (k ≡ 0 → s .volatile .count < 16) → withVolatile st (putAt (st .volatile) k (systemOf x)) ≡ changed st (st .volatile) c → Decides s c d
+  unfolding done Fits
+  decides-put d k x z p named f q = rw p (decides-accepted (record { number = 0; deed = Put k; system = x }) (Put k) z (refl, refl, named) f q)
 
 -- a ladder that gives 0: its first number does not apply, nor does any later one
 passed : (n : ℕ) (t : Bool) (rs : List Rung) → 0 < n → first ((n, t) ∷ rs) ≡ 0 → (t ≡ false) × (first rs ≡ 0)
@@ -91,27 +124,17 @@ module _ (st : State) (m : Memory) where
       let v = passed 12 _ _ (omega arith) (u .1) in
       passed 13 _ _ (omega arith) (v .1) .0
 
--- a stored memory has 16 places, and one is free for a new name that passed number 13
-module _ (m : StoredMemory) (long : length (m .systems) ≡ 16) (n : List ℕ) where
+-- what was seen of a memory, and a name that was looked for in it
+module _ (m : StoredMemory) (x y : List ℕ) (k : Looked) (s : Sees m x y k) (n : List ℕ) where
   pub place-few : placeNamed (systemsOf m) n ≤ 16
-  place-few = omega (arith, place-within (systemsOf m) n, length-systems m _ long refl)
+  place-few = omega (arith, place-within (systemsOf m) n, s .counted, s .links .few)
 
+  -- one place is free for a new name that passed number 13
   pub room : noRoom (memoryOf m) n ≡ false → placeNamed (systemsOf m) n ≡ 0 → m .count < 16
   unfolding noRoom isUser
-  room e z = leb-false 16 (m .count) (full-count m long ∙ (rw z at e))
+  room e z = rw (s .stored) (leb-false 16 (length (systemsOf m)) (rw z at e))
 
 -- a definition is put at the place of its name
 pub defined-by-place : (m : Memory) (k : Kind) (n : List ℕ) (t : Vec3) (u : Turns) → put m (fresh m k n t u) ≡ putAt m (placeNamed (m .systems) n) (fresh m k n t u)
 unfolding fresh
 defined-by-place m k n t u = put-by-place m (fresh m k n t u)
-
--- ---- shape
-
-module _ (s : StoredState) (h : shaped s ≡ true) where
-  pub volatile-shaped : memoryShaped (s .volatile) ≡ true
-  unfolding shaped
-  volatile-shaped = and-split (memoryShaped (s .volatile)) (memoryShaped (s .permanent)) h .0
-
-  pub permanent-shaped : memoryShaped (s .permanent) ≡ true
-  unfolding shaped
-  permanent-shaped = and-split (memoryShaped (s .volatile)) (memoryShaped (s .permanent)) h .1

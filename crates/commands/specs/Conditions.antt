@@ -29,6 +29,6 @@ usedAt m place = ltb 0 place && inUse m place
 abbrev pub beforeAt : List System → ℕ → Bool → ℕ → Bool
 beforeAt l place equal other = ltb 0 place && (equal || onChain l place other)
 
--- [Error 13] with a stored count of systems
+-- [Error 13] the name is new, and every place is taken; count is that of the systems
 abbrev pub fullAt : ℕ → ℕ → Bool
 fullAt place count = not (ltb 0 place) && leb maxSystems count

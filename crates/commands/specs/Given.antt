@@ -4,8 +4,6 @@ use Rattle.model.specs.Memory.{State}
 use Rattle.model.specs.Request.{Change}
 use Rattle.model.specs.Refusals.{first, changeLadder}
 use Rattle.model.specs.Effects.{withError, changed}
-use Rattle.model.specs.Stored.{stateOf}
-use Rattle.commands.specs.declared.changed.Changed.{Changed}
 
 pub record Given : Type 0 where
   pub state : State
@@ -25,7 +23,3 @@ givenBy st c n = elim (eqb n 0) [ true ↦ accepts (changed st (st .volatile) c)
 -- [Errors, end; Commands] the first number of the change's ladder decides
 unfoldable pub given : State → Change → Given
 given st c = givenBy st c (first (changeLadder st (st .volatile) c))
-
--- what the code's answer stands for
-abbrev pub givenOf : Changed → Given
-givenOf r = record { state = stateOf (r .state); number = r .number }

@@ -1,4 +1,5 @@
 pub mod Given
+pub mod Done
 pub mod Rungs
 pub mod Subject
 pub mod Conditions

@@ -1,12 +1,17 @@
--- What one search tells of a name.
+-- What one look at a memory tells of two names.
 use mathlib.Core.Path.{_≡_}
-use Rattle.model.specs.Base.{ℕ, List}
-use Rattle.model.specs.Memory.{Memory, State, placeNamed, find, named, userNamed}
+use lib.ListN.{length}
+use Rattle.model.specs.Base.{ℕ, List, true}
+use Rattle.model.specs.declared.Memory.{Memory as StoredMemory}
+use Rattle.model.specs.Memory.{Memory, State, placeNamed, find, named, userNamed, systemAt}
 use Rattle.model.specs.Request.{Change}
 use Rattle.model.specs.Refusals.{absent, first, changeLadder}
 use Rattle.model.specs.Words.{reserved}
+use Rattle.model.specs.Stored.{systemOf, systemsOf, memoryOf, nameShaped}
+use Rattle.chains.specs.Flat.{LinksOf}
 use Rattle.memory.specs.Found.{foundRef}
 use Rattle.commands.specs.declared.subject.Subject.{Subject}
+use Rattle.commands.specs.declared.subject.Looked.{Looked}
 
 -- all that is stored of it is right of the name n in the memory m
 pub record Tells (m : Memory) (n : List ℕ) (x : Subject) : Type 0 where
@@ -16,6 +21,17 @@ pub record Tells (m : Memory) (n : List ℕ) (x : Subject) : Type 0 where
   pub place-is : x .place ≡ placeNamed (m .systems) n
   pub group-is : x .group ≡ named m n .group
   pub kind-is : x .kind ≡ userNamed m n .kind
+
+-- all that was seen of the names a and b, and of the links, is right of the stored memory m
+pub record Sees (m : StoredMemory) (a b : List ℕ) (k : Looked) : Type 0 where
+  pub first : Tells (memoryOf m) a (k .first)
+  pub second : Tells (memoryOf m) b (k .second)
+  pub source : systemOf (k .source) ≡ systemAt (systemsOf m) (k .first .place)
+  pub named : nameShaped (k .source) ≡ true
+  pub links : LinksOf (systemsOf m) (k .links .preds) (k .links .count)
+  pub counted : k .links .count ≡ length (systemsOf m)
+  pub stored : m .count ≡ length (systemsOf m)
+  pub enabled : k .enabled ≡ m .enabled
 
 -- [Errors, end] the number of the change's refusal in this memory, at this level
 abbrev pub NumberOf : ℕ → Memory → Change → ℕ → Type 0

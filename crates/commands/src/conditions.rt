@@ -1,17 +1,20 @@
-// The conditions of numbers 9 to 13, over what the names were found to mean.
+// The conditions of numbers 9 to 13, over what the names were found to mean and the links that were seen.
 use crate::subject::Subject;
+use chains::links::Links;
 use chains::links::in_use;
-use chains::links::links_of;
 use chains::links::on_chain;
 use memory::kinds::code_of;
 use model::Enabled;
 use model::Group;
 use model::Kind;
-use model::Memory;
 ghost use mathlib.Core.Path.{_≡_};
+ghost use mathlib.Core.List.{List};
+ghost use Prim.Native.Nat.{_≤_};
+ghost use Rattle.model.specs.Limits.{maxSystems};
 ghost use Rattle.model.specs.Kinds.{ofGroup};
-ghost use Rattle.model.specs.Stored.{systemsOf, memoryOf};
-ghost use Rattle.chains.specs.Flat.{linkedBy, memoryBy};
+ghost use Rattle.model.specs.Memory.{System};
+ghost use Rattle.chains.specs.Flat.{linkedBy, memoryBy, LinksOf};
+ghost use Rattle.memory.specs.Put.{holding};
 ghost use Rattle.commands.specs.Conditions.{lockedAt, otherAt, wrongAt, usedAt, beforeAt, fullAt};
 
 fn guarded(g: Group) -> bool
@@ -86,40 +89,37 @@ fn at_or_before(preds: &[u8], place: u8, equal: bool, other: u8) -> bool
     on_chain(preds, place as usize, other as usize)
 }
 
-// There is a system at the place, and it is in use in the memory.
-pub fn used_in(m: Memory, place: u8) -> bool
-    ensures { λ r. ⌜ r ≡ usedAt (memoryOf m) place ⌝ }
+// The same, where the links have been laid flat.
+pub fn used_in(links: Links, e: Enabled, place: u8) -> bool
+    requires { ⌜ links .count ≤ maxSystems ⌝ }
+    ensures { λ r. ⌜ ((l : List System) → LinksOf l (links .preds) (links .count) → r ≡ usedAt (holding l e) place) ⌝ }
 {
-    let links = links_of(m);
     let preds = links.preds;
     let count = links.count;
-    let e = m.enabled;
     used(&preds[..count], e, place)
 }
 
-// What the links of a memory say of the system at a place: it is in use; it is the other one or on its chain.
+// What the links say of the system at a place: it is in use; it is the other one or on its chain.
 pub struct Ties {
     pub used: bool,
     pub ring: bool,
 }
 
-// Both, with the links laid flat once.
-pub fn ties_of(m: Memory, place: u8, equal: bool, other: u8) -> Ties
-    ensures { λ r. ⌜ r .used ≡ usedAt (memoryOf m) place ⌝ }
-    ensures { λ r. ⌜ r .ring ≡ beforeAt (systemsOf m) place equal other ⌝ }
+pub fn ties_of(links: Links, e: Enabled, place: u8, equal: bool, other: u8) -> Ties
+    requires { ⌜ links .count ≤ maxSystems ⌝ }
+    ensures { λ r. ⌜ ((l : List System) → LinksOf l (links .preds) (links .count) → r .used ≡ usedAt (holding l e) place) ⌝ }
+    ensures { λ r. ⌜ ((l : List System) → LinksOf l (links .preds) (links .count) → r .ring ≡ beforeAt l place equal other) ⌝ }
 {
-    let links = links_of(m);
     let preds = links.preds;
     let count = links.count;
     let flat = &preds[..count];
-    let e = m.enabled;
     let in_use = used(flat, e, place);
     let ring = at_or_before(flat, place, equal, other);
     Ties { used: in_use, ring }
 }
 
 // The name is new, and every place is taken.
-pub fn no_room(place: u8, count: u8) -> bool
+pub fn no_room(place: u8, count: usize) -> bool
     ensures { λ r. ⌜ r ≡ fullAt place count ⌝ }
 {
     (place == 0) & (16 <= count)

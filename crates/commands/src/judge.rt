@@ -7,7 +7,7 @@ use crate::conditions::used_in;
 use crate::conditions::wrong_pred;
 use crate::numbers::Rungs;
 use crate::numbers::first_number;
-use crate::subject::Subject;
+use crate::subject::Looked;
 use memory::kinds::group_of;
 use model::Kind;
 use model::Memory;
@@ -15,33 +15,43 @@ use model::Turns;
 use model::Vec3;
 ghost use mathlib.Core.Path.{_≡_};
 ghost use mathlib.Core.List.{List};
-ghost use Prim.Native.Nat.{ℕ};
+ghost use Prim.Native.Nat.{ℕ, _≤_};
+ghost use Rattle.model.specs.Limits.{maxSystems};
 ghost use Rattle.model.specs.Lists.{same};
 ghost use Rattle.model.specs.Request.{define, link, copy, remove, enable};
 ghost use Rattle.model.specs.Stored.{memoryOf};
-ghost use Rattle.commands.specs.Subject.{Tells, NumberOf};
+ghost use Rattle.commands.specs.Subject.{Sees, NumberOf};
 
-// A definition of n.
-pub fn judge_define(m: Memory, level: u8, kind: Kind, n: Subject) -> u8
-    ensures { λ r. ⌜ ((name : List ℕ) (t : Vec3) (u : Turns) → Tells (memoryOf m) name n → NumberOf level (memoryOf m) (define kind name t u) r) ⌝ }
+// A definition of the first name.
+pub fn judge_define(k: Looked, level: u8, kind: Kind) -> u8
+    requires { ⌜ k .links .count ≤ maxSystems ⌝ }
+    ensures { λ r. ⌜ ((m : Memory) (x y : List ℕ) (t : Vec3) (u : Turns) → Sees m x y k → NumberOf level (memoryOf m) (define kind x t u) r) ⌝ }
 {
+    let n = k.first;
+    let links = k.links;
+    let e = k.enabled;
     first_number(Rungs {
         absent: false,
         reserved: n.reserved,
         locked: locked(level, group_of(kind)),
         other: other_type(n, kind),
-        used: used_in(m, n.place),
+        used: used_in(links, e, n.place),
         ring: false,
-        full: no_room(n.place, m.count),
+        full: no_room(n.place, links.count),
     })
 }
 
-// A link of a to b; equal says whether the names are.
-pub fn judge_link(m: Memory, level: u8, a: Subject, b: Subject, equal: bool) -> u8
-    ensures { λ r. ⌜ ((x y : List ℕ) → Tells (memoryOf m) x a → Tells (memoryOf m) y b → equal ≡ same x y → NumberOf level (memoryOf m) (link x y) r) ⌝ }
+// A link of the first name to the second; equal says whether they are one.
+pub fn judge_link(k: Looked, level: u8, equal: bool) -> u8
+    requires { ⌜ k .links .count ≤ maxSystems ⌝ }
+    ensures { λ r. ⌜ ((m : Memory) (x y : List ℕ) → Sees m x y k → equal ≡ same x y → NumberOf level (memoryOf m) (link x y) r) ⌝ }
 {
+    let a = k.first;
+    let b = k.second;
     let group_a = a.group;
-    let ties = ties_of(m, a.place, equal, b.place);
+    let links = k.links;
+    let e = k.enabled;
+    let ties = ties_of(links, e, a.place, equal, b.place);
     first_number(Rungs {
         absent: a.absent | b.absent,
         reserved: a.reserved,
@@ -53,13 +63,18 @@ pub fn judge_link(m: Memory, level: u8, a: Subject, b: Subject, equal: bool) -> 
     })
 }
 
-// A copy of s to d; equal says whether the names are.
-pub fn judge_copy(m: Memory, level: u8, s: Subject, d: Subject, equal: bool) -> u8
-    ensures { λ r. ⌜ ((x y : List ℕ) → Tells (memoryOf m) x s → Tells (memoryOf m) y d → equal ≡ same y x → NumberOf level (memoryOf m) (copy x y) r) ⌝ }
+// A copy of the first name to the second; equal says whether they are one.
+pub fn judge_copy(k: Looked, level: u8, equal: bool) -> u8
+    requires { ⌜ k .links .count ≤ maxSystems ⌝ }
+    ensures { λ r. ⌜ ((m : Memory) (x y : List ℕ) → Sees m x y k → equal ≡ same y x → NumberOf level (memoryOf m) (copy x y) r) ⌝ }
 {
+    let s = k.first;
+    let d = k.second;
     let group = s.group;
     let kind = s.kind;
-    let over = ties_of(m, d.place, equal, s.place);
+    let links = k.links;
+    let e = k.enabled;
+    let over = ties_of(links, e, d.place, equal, s.place);
     first_number(Rungs {
         absent: s.absent,
         reserved: s.reserved | d.reserved,
@@ -67,30 +82,35 @@ pub fn judge_copy(m: Memory, level: u8, s: Subject, d: Subject, equal: bool) -> 
         other: other_type(d, kind),
         used: over.used,
         ring: over.ring,
-        full: no_room(d.place, m.count),
+        full: no_room(d.place, links.count),
     })
 }
 
-// The removal of a.
-pub fn judge_remove(m: Memory, level: u8, a: Subject) -> u8
-    ensures { λ r. ⌜ ((x : List ℕ) → Tells (memoryOf m) x a → NumberOf level (memoryOf m) (remove x) r) ⌝ }
+// The removal of the first name.
+pub fn judge_remove(k: Looked, level: u8) -> u8
+    requires { ⌜ k .links .count ≤ maxSystems ⌝ }
+    ensures { λ r. ⌜ ((m : Memory) (x y : List ℕ) → Sees m x y k → NumberOf level (memoryOf m) (remove x) r) ⌝ }
 {
+    let a = k.first;
     let group = a.group;
+    let links = k.links;
+    let e = k.enabled;
     first_number(Rungs {
         absent: a.absent,
         reserved: a.reserved,
         locked: locked(level, group),
         other: false,
-        used: used_in(m, a.place),
+        used: used_in(links, e, a.place),
         ring: false,
         full: false,
     })
 }
 
-// The enabling of a, user or fixed.
-pub fn judge_enable(m: Memory, level: u8, a: Subject) -> u8
-    ensures { λ r. ⌜ ((x : List ℕ) → Tells (memoryOf m) x a → NumberOf level (memoryOf m) (enable x) r) ⌝ }
+// The enabling of the first name, user or fixed.
+pub fn judge_enable(k: Looked, level: u8) -> u8
+    ensures { λ r. ⌜ ((m : Memory) (x y : List ℕ) → Sees m x y k → NumberOf level (memoryOf m) (enable x) r) ⌝ }
 {
+    let a = k.first;
     let group = a.group;
     first_number(Rungs {
         absent: a.absent,

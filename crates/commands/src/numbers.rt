@@ -5,7 +5,7 @@ ghost use Rattle.commands.specs.Rungs.{rungsOf};
 
 const ACCEPTED: u8 = 0;
 
-const ABSENT: u8 = 7;
+pub const ABSENT: u8 = 7;
 
 const RESERVED: u8 = 8;
 

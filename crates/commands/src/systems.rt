@@ -1,5 +1,6 @@
-// The changes of the systems. Each name is looked up once; then the change is judged and, where no number applies, carried out.
-use crate::changed::Changed;
+// The changes of the systems. Their names have been looked up; each is judged, and what is to be done is told.
+use crate::changed::Decision;
+use crate::changed::Deed;
 use crate::changed::accepted;
 use crate::changed::refused;
 use crate::judge::judge_copy;
@@ -7,114 +8,111 @@ use crate::judge::judge_define;
 use crate::judge::judge_enable;
 use crate::judge::judge_link;
 use crate::judge::judge_remove;
-use crate::subject::look;
+use crate::subject::Looked;
 use memory::edit::fresh_system;
-use memory::edit::link_at;
-use memory::edit::put_at;
-use memory::edit::removed_at;
+use memory::edit::relinked;
 use memory::edit::renamed;
 use memory::enable::enabling;
-use memory::find::system_at;
 use memory::names::same_name;
 use model::Kind;
 use model::Name;
 use model::State;
+use model::System;
 use model::Turns;
 use model::Vec3;
 ghost use mathlib.Core.Path.{_≡_};
-ghost use mathlib.Core.Bool.{true};
-ghost use Prim.Native.Nat.{_≤_};
-ghost use Rattle.model.specs.Limits.{nameLimit};
+ghost use mathlib.Core.List.{List};
+ghost use Prim.Native.Nat.{ℕ, _≤_};
+ghost use Rattle.model.specs.Limits.{nameLimit, maxSystems};
 ghost use Rattle.model.specs.Request.{define, link, copy, remove, enable};
-ghost use Rattle.model.specs.Stored.{bytesOf, stateOf, shaped};
-ghost use Rattle.commands.specs.Given.{given, givenOf};
+ghost use Rattle.model.specs.Stored.{bytesOf};
+ghost use Rattle.commands.specs.Subject.{Sees};
+ghost use Rattle.commands.specs.Done.{Decides};
+
+// An accepted change that puts a system at a place.
+fn putting(place: u8, system: System) -> Decision
+    ensures { λ r. ⌜ r ≡ record { number = 0; deed = Deed.Put place; system = system } ⌝ }
+{
+    Decision {
+        number: 0,
+        deed: Deed::Put(place),
+        system,
+    }
+}
 
 // KSD, KST, KSW, KSB, KLD.
-pub fn define(s: State, kind: Kind, n: Name, offset: Vec3, turns: Turns) -> Changed
-    ensures { λ r. ⌜ givenOf r ≡ given (stateOf s) (define kind (bytesOf n) offset turns) ⌝ }
-    ensures { λ r. ⌜ (shaped s ≡ true → n .len ≤ nameLimit → shaped (r .state) ≡ true) ⌝ }
+pub fn define(k: Looked, level: u8, kind: Kind, n: Name, offset: Vec3, turns: Turns) -> Decision
+    requires { ⌜ (k .links .count ≤ maxSystems) × (n .len ≤ nameLimit) ⌝ }
+    ensures { λ r. ⌜ ((s : State) (y : List ℕ) → s .level ≡ level → Sees (s .volatile) (bytesOf n) y k → Decides s (define kind (bytesOf n) offset turns) r) ⌝ }
 {
-    let m = s.volatile;
-    let level = s.level;
-    let x = look(m, n);
-    let number = judge_define(m, level, kind, x);
+    let number = judge_define(k, level, kind);
     if number != 0 {
-        return refused(s, number);
+        return refused(number);
     }
-    let e = m.enabled;
+    let x = k.first;
+    let e = k.enabled;
     let made = fresh_system(e, kind, n, offset, turns);
-    let next = put_at(m, x.place, made);
-    accepted(s, next)
+    putting(x.place, made)
 }
 
 // KLN: b becomes the predecessor of a.
-pub fn link(s: State, a: Name, b: Name) -> Changed
-    ensures { λ r. ⌜ givenOf r ≡ given (stateOf s) (link (bytesOf a) (bytesOf b)) ⌝ }
-    ensures { λ r. ⌜ (shaped s ≡ true → shaped (r .state) ≡ true) ⌝ }
+pub fn link(k: Looked, level: u8, a: Name, b: Name) -> Decision
+    requires { ⌜ k .links .count ≤ maxSystems ⌝ }
+    ensures { λ r. ⌜ ((s : State) → s .level ≡ level → Sees (s .volatile) (bytesOf a) (bytesOf b) k → Decides s (link (bytesOf a) (bytesOf b)) r) ⌝ }
 {
-    let m = s.volatile;
-    let level = s.level;
-    let x = look(m, a);
-    let y = look(m, b);
     let equal = same_name(a, b);
-    let number = judge_link(m, level, x, y, equal);
+    let number = judge_link(k, level, equal);
     if number != 0 {
-        return refused(s, number);
+        return refused(number);
     }
-    let next = link_at(m, x.place, y.place);
-    accepted(s, next)
+    let x = k.first;
+    let y = k.second;
+    let source = k.source;
+    let made = relinked(source, y.place);
+    putting(x.place, made)
 }
 
 // KCP: to gets all that from has but its name.
-pub fn copy(s: State, from: Name, to: Name) -> Changed
-    ensures { λ r. ⌜ givenOf r ≡ given (stateOf s) (copy (bytesOf from) (bytesOf to)) ⌝ }
-    ensures { λ r. ⌜ (shaped s ≡ true → to .len ≤ nameLimit → shaped (r .state) ≡ true) ⌝ }
+pub fn copy(k: Looked, level: u8, from: Name, to: Name) -> Decision
+    requires { ⌜ (k .links .count ≤ maxSystems) × (to .len ≤ nameLimit) ⌝ }
+    ensures { λ r. ⌜ ((s : State) → s .level ≡ level → Sees (s .volatile) (bytesOf from) (bytesOf to) k → Decides s (copy (bytesOf from) (bytesOf to)) r) ⌝ }
 {
-    let m = s.volatile;
-    let level = s.level;
-    let x = look(m, from);
-    let y = look(m, to);
     let equal = same_name(to, from);
-    let number = judge_copy(m, level, x, y, equal);
+    let number = judge_copy(k, level, equal);
     if number != 0 {
-        return refused(s, number);
+        return refused(number);
     }
-    let source = system_at(m, x.place);
+    let y = k.second;
+    let source = k.source;
     let made = renamed(source, to);
-    let next = put_at(m, y.place, made);
-    accepted(s, next)
+    putting(y.place, made)
 }
 
-// KRM: a goes.
-pub fn remove(s: State, a: Name) -> Changed
-    ensures { λ r. ⌜ givenOf r ≡ given (stateOf s) (remove (bytesOf a)) ⌝ }
-    ensures { λ r. ⌜ (shaped s ≡ true → shaped (r .state) ≡ true) ⌝ }
+// KRM: the first name goes.
+pub fn remove(k: Looked, level: u8) -> Decision
+    requires { ⌜ k .links .count ≤ maxSystems ⌝ }
+    ensures { λ r. ⌜ ((s : State) (x y : List ℕ) → s .level ≡ level → Sees (s .volatile) x y k → Decides s (remove x) r) ⌝ }
 {
-    let m = s.volatile;
-    let level = s.level;
-    let x = look(m, a);
-    let number = judge_remove(m, level, x);
+    let number = judge_remove(k, level);
     if number != 0 {
-        return refused(s, number);
+        return refused(number);
     }
-    let next = removed_at(m, x.place);
-    accepted(s, next)
+    let x = k.first;
+    accepted(Deed::Remove(x.place))
 }
 
-// KEN: a, user or fixed, is enabled.
-pub fn enable(s: State, a: Name) -> Changed
-    ensures { λ r. ⌜ givenOf r ≡ given (stateOf s) (enable (bytesOf a)) ⌝ }
-    ensures { λ r. ⌜ (shaped s ≡ true → shaped (r .state) ≡ true) ⌝ }
+// KEN: the first name, user or fixed, is enabled.
+pub fn enable(k: Looked, level: u8) -> Decision
+    ensures { λ r. ⌜ ((s : State) (x y : List ℕ) → s .level ≡ level → Sees (s .volatile) x y k → Decides s (enable x) r) ⌝ }
 {
-    let m = s.volatile;
-    let level = s.level;
-    let x = look(m, a);
-    let number = judge_enable(m, level, x);
+    let number = judge_enable(k, level);
     if number != 0 {
-        return refused(s, number);
+        return refused(number);
     }
+    let x = k.first;
+    let kind = x.kind;
     let found = x.found;
-    let mut next = m;
-    next.enabled = enabling(level, m, found);
-    accepted(s, next)
+    let before = k.enabled;
+    let after = enabling(level, before, kind, found);
+    accepted(Deed::Enable(after))
 }

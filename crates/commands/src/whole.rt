@@ -1,57 +1,44 @@
-// The changes that concern no single system: the level, and whole memories.
-use crate::changed::Changed;
+// The changes that concern no single system, the level and whole memories: what is decided of each.
+use crate::changed::Decision;
+use crate::changed::Deed;
 use crate::changed::accepted;
 use crate::changed::refused;
 use crate::numbers::LOCKED;
-use memory::factory::factory_memory;
 use model::State;
 ghost use mathlib.Core.Path.{_≡_};
-ghost use mathlib.Core.Bool.{true};
 ghost use Rattle.model.specs.Request.{setLevel, save, restore, reset};
-ghost use Rattle.model.specs.Stored.{stateOf, shaped};
-ghost use Rattle.commands.specs.Given.{given, givenOf};
+ghost use Rattle.commands.specs.Done.{Decides};
 
 // CCL.
-pub fn set_level(s: State, n: u8) -> Changed
-    ensures { λ r. ⌜ givenOf r ≡ given (stateOf s) (setLevel n) ⌝ }
-    ensures { λ r. ⌜ (shaped s ≡ true → shaped (r .state) ≡ true) ⌝ }
+pub fn set_level(n: u8) -> Decision
+    ensures { λ r. ⌜ ((s : State) → Decides s (setLevel n) r) ⌝ }
 {
-    let mut state = s;
-    state.level = n;
-    Changed { state, number: 0 }
+    accepted(Deed::SetLevel(n))
 }
 
 // WPA: the volatile memory is saved.
-pub fn save(s: State) -> Changed
-    ensures { λ r. ⌜ givenOf r ≡ given (stateOf s) save ⌝ }
-    ensures { λ r. ⌜ (shaped s ≡ true → shaped (r .state) ≡ true) ⌝ }
+pub fn save() -> Decision
+    ensures { λ r. ⌜ ((s : State) → Decides s save r) ⌝ }
 {
-    let m = s.volatile;
-    let mut state = s;
-    state.permanent = m;
-    Changed { state, number: 0 }
+    accepted(Deed::Save)
 }
 
 // RPA: the saved memory comes back.
-pub fn restore(s: State) -> Changed
-    ensures { λ r. ⌜ givenOf r ≡ given (stateOf s) restore ⌝ }
-    ensures { λ r. ⌜ (shaped s ≡ true → shaped (r .state) ≡ true) ⌝ }
+pub fn restore(level: u8) -> Decision
+    ensures { λ r. ⌜ ((s : State) → s .level ≡ level → Decides s restore r) ⌝ }
 {
-    if s.level == 0 {
-        return refused(s, LOCKED);
+    if level == 0 {
+        return refused(LOCKED);
     }
-    let m = s.permanent;
-    accepted(s, m)
+    accepted(Deed::Restore)
 }
 
 // DPA: the volatile memory is the factory's.
-pub fn reset(s: State) -> Changed
-    ensures { λ r. ⌜ givenOf r ≡ given (stateOf s) reset ⌝ }
-    ensures { λ r. ⌜ (shaped s ≡ true → shaped (r .state) ≡ true) ⌝ }
+pub fn reset(level: u8) -> Decision
+    ensures { λ r. ⌜ ((s : State) → s .level ≡ level → Decides s reset r) ⌝ }
 {
-    if s.level == 0 {
-        return refused(s, LOCKED);
+    if level == 0 {
+        return refused(LOCKED);
     }
-    let m = factory_memory();
-    accepted(s, m)
+    accepted(Deed::Reset)
 }

@@ -1,4 +1,4 @@
 pub mod Views
 pub mod Steps
-pub mod Listing
+pub mod Taking
 pub mod OneLine

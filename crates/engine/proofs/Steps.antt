@@ -1,19 +1,18 @@
 -- The machine's step, rung by rung: the buffer, the line's bytes, and then what the line asks.
-use Prim.Native.Nat.{ℕ, _≤_, _<_}
-use mathlib.Core.Path.{_≡_, refl, sym, ap, _∙_}
-use mathlib.Core.List.{List, [], _∷_, _++_}
+use Prim.Native.Nat.{ℕ}
+use mathlib.Core.Path.{_≡_, refl, ap, _∙_}
+use mathlib.Core.List.{List, _++_}
 use mathlib.Core.Bool.{true, false}
 use mathlib.Core.Logic.{⊎-elim}
 use lib.Dec.{eqb}
-use lib.ListN.{length}
-use Rattle.model.specs.Memory.{Memory, State}
+use Rattle.model.specs.Memory.{State}
 use Rattle.model.specs.WellFormed.{wellFormed}
-use Rattle.model.specs.Request.{Reading, Change, Query, reading, unknown, malformed, beyond, asks, change, list, lastError, enabledOnes, systemsAll, links, resultants, resultantOf}
+use Rattle.model.specs.Request.{Change, reading, unknown, malformed, beyond, asks, change, list, lastError, enabledOnes, systemsAll, links, resultants}
 use Rattle.model.specs.Refusals.{first, short, unreadable, readingLadder, requestLadder, changeLadder, queryLadder, ladder, refusal}
-use Rattle.model.specs.Effects.{withError, changed, next}
+use Rattle.model.specs.Effects.{withError, next}
 use Rattle.model.specs.Reply.{listed, reply, decimal}
 use Rattle.model.specs.Ascii.{ascii}
-use Rattle.model.specs.Machine.{Outcome, stepped, judged, carriedOut, answered, refused}
+use Rattle.model.specs.Machine.{stepped, judged, carriedOut, answered, refused}
 use Rattle.model.proofs.Refusing.{step-fine}
 use Rattle.model.proofs.Basics.{either}
 use Rattle.commands.specs.Given.{given, givenBy}

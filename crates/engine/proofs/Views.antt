@@ -1,19 +1,18 @@
 -- Laws of stored states and what they stand for: where a state stands for one of the machine, and where a call is refused with 1.
 use Prim.Native.Nat.{ℕ}
-use mathlib.Core.Path.{_≡_, refl, sym, ap, _∙_}
+use mathlib.Core.Path.{_≡_, refl, ap}
 use mathlib.Core.List.{List}
-use mathlib.Core.Bool.{Bool, true, false, _&&_}
+use mathlib.Core.Bool.{true, false, _&&_}
 use mathlib.Core.Logic.{⊎-elim}
 use Rattle.model.specs.declared.State.{State as StoredState}
-use Rattle.model.specs.Memory.{State}
 use Rattle.model.specs.WellFormed.{wellFormed}
-use Rattle.model.specs.Machine.{stepped, restart, writeImage, refused, began}
-use Rattle.model.specs.Stored.{View, holds, shapeless, Answered, Restarted, ofOutcome, ofBegun, memoryShaped, shaped, stateOf, viewOf, lineAnswer, imageAnswer, restartAnswer}
+use Rattle.model.specs.Stored.{holds, shapeless, ofOutcome, ofBegun, memoryShaped, shaped, stateOf, viewOf, lineAnswer, imageAnswer, restartAnswer}
 use Rattle.model.proofs.Basics.{and-join, and-split, either}
+use Rattle.model.proofs.Fine.{state-of}
 use Rattle.model.proofs.Refusing.{step-ill}
 use Rattle.model.proofs.Exact.{other-numbers-exact}
 use Rattle.engine.specs.declared.answer.Stepped.{Stepped}
-use Rattle.engine.specs.Fine.{Fine, answeredOf}
+use Rattle.engine.specs.Fine.{Fine, FineMemory, answeredOf}
 
 pub view-holds : (s : StoredState) → shaped s ≡ true → viewOf s ≡ holds (stateOf s)
 unfolding viewOf
@@ -33,6 +32,10 @@ shape-parts s e = and-split (memoryShaped (s .volatile)) (memoryShaped (s .perma
 
 pub fine-of : (s : StoredState) → shaped s && wellFormed (stateOf s) ≡ true → Fine s
 fine-of s e = let p = and-split (shaped s) (wellFormed (stateOf s)) e in record { shape = p .0; formed = p .1 }
+
+-- the volatile memory of such a state
+pub fine-volatile : (s : StoredState) → Fine s → FineMemory (s .volatile)
+fine-volatile s f = record { shape = shape-parts s (f .shape) .0; formed = state-of (stateOf s) (f .formed) .volatile }
 
 -- ---- a state that is not well formed: with 1, and all as it was
 

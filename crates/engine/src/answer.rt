@@ -1,15 +1,17 @@
-// What a line gives: refused, changed or listed.
-use commands::changed::Changed;
+// What a line gives: refused, changed or replied to.
+use commands::changed::Decision;
+use commands::changed::Deed;
+use commands::changed::accepted;
 use model::State;
 ghost use mathlib.Core.Path.{_≡_};
 ghost use mathlib.Core.Bool.{true};
-ghost use mathlib.Core.List.{List};
-ghost use Prim.Native.Nat.{ℕ};
-ghost use Rattle.model.specs.Effects.{withError};
-ghost use Rattle.model.specs.Machine as machine;
-ghost use Rattle.model.specs.Stored.{ofOutcome, shaped, stateOf};
-ghost use Rattle.commands.specs.Given.{givenOf};
-ghost use Rattle.engine.specs.Fine.{answeredOf, ofGiven, listedAs};
+ghost use Rattle.model.specs.Stored.{nameShaped};
+
+// What is decided, and how many bytes of the lent buffer were written.
+pub struct Step {
+    pub decision: Decision,
+    pub length: usize,
+}
 
 // The next state, the number (0: accepted), and how many bytes of the lent buffer were written.
 pub struct Stepped {
@@ -18,41 +20,20 @@ pub struct Stepped {
     pub length: usize,
 }
 
-// The last error is set, and nothing else.
-pub fn refused(s: State, number: u8) -> Stepped
-    requires { ⌜ shaped s ≡ true ⌝ }
-    ensures { λ r. ⌜ ((b : List ℕ) → answeredOf r b ≡ ofOutcome (machine.refused (withError (stateOf s) number) number b)) ⌝ }
+// A refusal or a change has no reply.
+pub fn silent(decision: Decision) -> Step
+    ensures { λ r. ⌜ r ≡ record { decision = decision; length = 0 } ⌝ }
 {
-    let mut state = s;
-    state.error = number;
-    Stepped {
-        state,
-        number,
-        length: 0,
-    }
-}
-
-// A change has no reply.
-pub fn changed(c: Changed) -> Stepped
-    requires { ⌜ shaped (c .state) ≡ true ⌝ }
-    ensures { λ r. ⌜ ((b : List ℕ) → answeredOf r b ≡ ofOutcome (ofGiven (givenOf c) b)) ⌝ }
-{
-    let state = c.state;
-    Stepped {
-        state,
-        number: c.number,
+    Step {
+        decision,
         length: 0,
     }
 }
 
 // A reply of so many bytes; the state stays.
-pub fn replied(s: State, length: usize) -> Stepped
-    requires { ⌜ shaped s ≡ true ⌝ }
-    ensures { λ r. ⌜ ((b : List ℕ) → answeredOf r b ≡ ofOutcome (listedAs (stateOf s) length b)) ⌝ }
+pub fn replied(length: usize) -> Step
+    ensures { λ r. ⌜ (r .decision .number ≡ 0) × (r .decision .deed ≡ Deed.Keep) × (nameShaped (r .decision .system) ≡ true) × (r .length ≡ length) ⌝ }
 {
-    Stepped {
-        state: s,
-        number: 0,
-        length,
-    }
+    let decision = accepted(Deed::Keep);
+    Step { decision, length }
 }

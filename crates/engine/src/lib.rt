@@ -1,4 +1,4 @@
 // A command line obeyed in a well-formed state.
-pub mod answer; // answer.rt: what a line gives, refused, changed or replied
+pub mod answer; // answer.rt: what a line gives: the step that is decided, and the next state with its number
 mod lists; // lists.rt: the lines that reply
-pub mod line; // line.rt: the line judged, read and carried out
+pub mod line; // line.rt: the line judged, read and decided; the decision carried out

@@ -1,103 +1,99 @@
 // The lines that reply: the listings of the volatile memory, and the last error.
-use crate::answer::Stepped;
-use crate::answer::refused;
+use crate::answer::Step;
 use crate::answer::replied;
+use crate::answer::silent;
+use commands::changed::Deed;
+use commands::changed::accepted;
+use commands::changed::refused;
+use commands::numbers::ABSENT;
+use commands::subject::Subject;
 use memory::find::Found;
-use memory::find::find;
 use model::Group;
-use model::Name;
-use model::State;
-ghost use mathlib.Core.Path.{_≡_};
-ghost use Prim.Native.Nat.{_≤_};
+use model::Memory;
+ghost use mathlib.Core.List.{List};
+ghost use Prim.Native.Nat.{ℕ, _≤_};
 ghost use lib.ListN.{length};
 ghost use Rattle.model.specs.Limits.{bufferLimit};
 ghost use Rattle.model.specs.Request.{asks, list, lastError, enabledOnes, systemsAll, links, resultants, resultantOf};
-ghost use Rattle.model.specs.Stored.{bytesOf, ofOutcome, stateOf};
+ghost use Rattle.model.specs.Stored.{memoryOf, stateOf};
 ghost use Rattle.model.specs.Machine.{answered};
-ghost use Rattle.engine.specs.Fine.{Fine, answeredOf, oneLine};
+ghost use Rattle.commands.specs.Subject.{Tells};
+ghost use Rattle.engine.specs.Fine.{FineMemory, stateWith, oneLine};
+ghost use Rattle.engine.specs.Taken.{Takes};
 ghost use Rattle.engine.specs.Obeyed.{obeyed};
 
-const ABSENT: u8 = 7;
-
 // KEN?
-pub fn enabled_line(s: State, reply: &mut [u8]) -> Stepped
-    requires { ⌜ Fine s ⌝ }
+pub fn enabled_line(m: Memory, reply: &mut [u8]) -> Step
+    requires { ⌜ FineMemory m ⌝ }
     requires { ⌜ bufferLimit ≤ length (now reply) ⌝ }
-    ensures { λ r. ⌜ answeredOf r (now (reply .exit)) ≡ ofOutcome (obeyed (stateOf s) (asks (list enabledOnes)) (now (reply .entry))) ⌝ }
+    ensures { λ r. ⌜ ((p : Memory) (level error : ℕ) → Takes (stateWith m p level error) (obeyed (stateOf (stateWith m p level error)) (asks (list enabledOnes)) (now (reply .entry))) r (now (reply .exit))) ⌝ }
 {
-    let m = s.volatile;
     let n = reply::enabled::enabled(m, reply);
-    replied(s, n)
+    replied(n)
 }
 
 // KLS?
-pub fn systems_line(s: State, reply: &mut [u8]) -> Stepped
-    requires { ⌜ Fine s ⌝ }
+pub fn systems_line(m: Memory, reply: &mut [u8]) -> Step
+    requires { ⌜ FineMemory m ⌝ }
     requires { ⌜ bufferLimit ≤ length (now reply) ⌝ }
-    ensures { λ r. ⌜ answeredOf r (now (reply .exit)) ≡ ofOutcome (obeyed (stateOf s) (asks (list systemsAll)) (now (reply .entry))) ⌝ }
+    ensures { λ r. ⌜ ((p : Memory) (level error : ℕ) → Takes (stateWith m p level error) (obeyed (stateOf (stateWith m p level error)) (asks (list systemsAll)) (now (reply .entry))) r (now (reply .exit))) ⌝ }
 {
-    let m = s.volatile;
     let n = reply::systems(m, reply);
-    replied(s, n)
+    replied(n)
 }
 
 // KLN?
-pub fn links_line(s: State, reply: &mut [u8]) -> Stepped
-    requires { ⌜ Fine s ⌝ }
+pub fn links_line(m: Memory, reply: &mut [u8]) -> Step
+    requires { ⌜ FineMemory m ⌝ }
     requires { ⌜ bufferLimit ≤ length (now reply) ⌝ }
-    ensures { λ r. ⌜ answeredOf r (now (reply .exit)) ≡ ofOutcome (obeyed (stateOf s) (asks (list links)) (now (reply .entry))) ⌝ }
+    ensures { λ r. ⌜ ((p : Memory) (level error : ℕ) → Takes (stateWith m p level error) (obeyed (stateOf (stateWith m p level error)) (asks (list links)) (now (reply .entry))) r (now (reply .exit))) ⌝ }
 {
-    let m = s.volatile;
     let n = reply::links(m, reply);
-    replied(s, n)
+    replied(n)
 }
 
 // KLT?
-pub fn resultants_line(s: State, reply: &mut [u8]) -> Stepped
-    requires { ⌜ Fine s ⌝ }
+pub fn resultants_line(m: Memory, reply: &mut [u8]) -> Step
+    requires { ⌜ FineMemory m ⌝ }
     requires { ⌜ bufferLimit ≤ length (now reply) ⌝ }
-    ensures { λ r. ⌜ answeredOf r (now (reply .exit)) ≡ ofOutcome (obeyed (stateOf s) (asks (list resultants)) (now (reply .entry))) ⌝ }
+    ensures { λ r. ⌜ ((p : Memory) (level error : ℕ) → Takes (stateWith m p level error) (obeyed (stateOf (stateWith m p level error)) (asks (list resultants)) (now (reply .entry))) r (now (reply .exit))) ⌝ }
 {
-    let m = s.volatile;
     let n = reply::resultants::resultants(m, reply);
-    replied(s, n)
+    replied(n)
 }
 
 // One system's line, by its place in its group.
-fn one_line(s: State, group: Group, place: u8, reply: &mut [u8]) -> Stepped
-    requires { ⌜ Fine s ⌝ }
+fn one_line(m: Memory, group: Group, place: u8, reply: &mut [u8]) -> Step
+    requires { ⌜ FineMemory m ⌝ }
     requires { ⌜ bufferLimit ≤ length (now reply) ⌝ }
-    requires { ⌜ place ≤ s .volatile .count ⌝ }
-    ensures { λ r. ⌜ answeredOf r (now (reply .exit)) ≡ ofOutcome (answered (stateOf s) (oneLine (s .volatile) group place) (now (reply .entry))) ⌝ }
+    requires { ⌜ place ≤ m .count ⌝ }
+    ensures { λ r. ⌜ ((p : Memory) (level error : ℕ) → Takes (stateWith m p level error) (answered (stateOf (stateWith m p level error)) (oneLine m group place) (now (reply .entry))) r (now (reply .exit))) ⌝ }
 {
-    let m = s.volatile;
     let n = reply::resultants::resultant_at(m, group, place, reply);
-    replied(s, n)
+    replied(n)
 }
 
-// KLT? with a name.
-pub fn resultant_line(s: State, a: Name, reply: &mut [u8]) -> Stepped
-    requires { ⌜ Fine s ⌝ }
+// KLT? with a name that was looked up.
+pub fn resultant_line(m: Memory, x: Subject, reply: &mut [u8]) -> Step
+    requires { ⌜ FineMemory m ⌝ }
     requires { ⌜ bufferLimit ≤ length (now reply) ⌝ }
-    ensures { λ r. ⌜ answeredOf r (now (reply .exit)) ≡ ofOutcome (obeyed (stateOf s) (asks (list (resultantOf (bytesOf a)))) (now (reply .entry))) ⌝ }
+    requires { ⌜ x .place ≤ m .count ⌝ }
+    ensures { λ r. ⌜ ((n : List ℕ) (p : Memory) (level error : ℕ) → Tells (memoryOf m) n x → Takes (stateWith m p level error) (obeyed (stateOf (stateWith m p level error)) (asks (list (resultantOf n))) (now (reply .entry))) r (now (reply .exit))) ⌝ }
 {
-    let m = s.volatile;
-    let found = find(m, a);
+    let found = x.found;
     match found {
-        Found::User(place) => one_line(s, Group::Operating, place, reply),
-        Found::Fixed(group) => one_line(s, group, 0, reply),
-        Found::Absent => refused(s, ABSENT),
+        Found::User(_) => one_line(m, Group::Operating, x.place, reply),
+        Found::Fixed(group) => one_line(m, group, 0, reply),
+        Found::Absent => silent(refused(ABSENT)),
     }
 }
 
 // ERR?: the last error, which is then 0.
-pub fn error_line(s: State, reply: &mut [u8]) -> Stepped
-    requires { ⌜ Fine s ⌝ }
+pub fn error_line(error: u8, reply: &mut [u8]) -> Step
     requires { ⌜ bufferLimit ≤ length (now reply) ⌝ }
-    ensures { λ r. ⌜ answeredOf r (now (reply .exit)) ≡ ofOutcome (obeyed (stateOf s) (asks lastError) (now (reply .entry))) ⌝ }
+    ensures { λ r. ⌜ ((v p : Memory) (level : ℕ) → Takes (stateWith v p level error) (obeyed (stateOf (stateWith v p level error)) (asks lastError) (now (reply .entry))) r (now (reply .exit))) ⌝ }
 {
-    let n = reply::last_error(s.error, reply);
-    let mut next = s;
-    next.error = 0;
-    replied(next, n)
+    let length = reply::last_error(error, reply);
+    let decision = accepted(Deed::SetError(0));
+    Step { decision, length }
 }

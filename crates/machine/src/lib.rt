@@ -1,14 +1,12 @@
 // The machine's public calls. None asks anything of its caller: a state that is not well formed comes back as it is, with 1.
 use engine::answer::Stepped;
+use engine::line::ROOM;
 use model::State;
 ghost use mathlib.Core.Path.{_≡_};
 ghost use Rattle.model.specs.Machine.{startFactory, startImage};
 ghost use Rattle.model.specs.Stored.{viewOf, holds, ofBegun, lineAnswer, imageAnswer, restartAnswer};
 ghost use Rattle.engine.specs.Fine.{answeredOf};
 ghost use Rattle.machine.specs.Calls.{begunOf};
-
-// The least lent buffer.
-const ROOM: usize = 4096;
 
 // What a call without a lent buffer gives: the next state, and the number (0: accepted).
 pub struct Begun {

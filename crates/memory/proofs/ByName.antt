@@ -1,18 +1,12 @@
--- For callers: the edits of the definitions go by name, those of the code by the place that the name has; and what a found place is good for.
-use Prim.Native.Nat.{ℕ, _≤_}
+-- For callers: the edits of the definitions go by name, those of the code by the place that the name has.
+use Prim.Native.Nat.{ℕ}
 use mathlib.Core.Path.{_≡_, refl, ap, _∙_}
 use mathlib.Core.Bool.{true}
 use mathlib.Core.List.{List}
-use native.Mathlib.Omega.{arith}
-use lib.ListN.{length, length-map, length-take}
-use Rattle.model.specs.declared.Memory.{Memory as StoredMemory}
-use Rattle.model.specs.Limits.{maxSystems}
 use Rattle.model.specs.Memory.{System, Memory, systemAt, placeNamed, isUser, named, userNamed}
 use Rattle.model.specs.Effects.{put, linked, withPred, withName}
-use Rattle.model.specs.Stored.{systemsOf, memoryShaped}
 use Rattle.model.proofs.Named.{user-place, place-name, named-place}
 use Rattle.memory.specs.Put.{putAt}
-use Rattle.memory.proofs.Shape.{shaped-count}
 
 -- a system is put at the place that its name has
 pub put-by-place : (m : Memory) (s : System) → put m s ≡ putAt m (placeNamed (m .systems) (s .name)) s
@@ -33,12 +27,3 @@ linked-by-place m a b u =
     put-by-place m s
     ∙ ap (λ (n : List ℕ). putAt m (placeNamed (m .systems) n) s) e
     ∙ ap (λ (q : ℕ). putAt m (placeNamed (m .systems) a) (withPred (userNamed m a) q)) (named-place m b)
-
-module _ (m : StoredMemory) (e : memoryShaped m ≡ true) where
-  -- a place within the systems is within the array
-  pub few-systems : length (systemsOf m) ≤ maxSystems
-  few-systems = simp (length-map, length-take) (omega (arith, shaped-count m e))
-
-  -- the count is the number of systems
-  pub count-systems : length (m .systems) ≡ 16 → length (systemsOf m) ≡ m .count
-  count-systems h = simp (length-map, length-take) (omega (arith, shaped-count m e))

@@ -7,7 +7,7 @@ use native.Mathlib.Decide.{decLt}
 use native.Mathlib.Numerals.{add-one}
 use borrow.Author.Tests.{lt-ltb, le-ltb}
 use lib.ListN.{length, take, getD, set, length-map, length-take}
-use lib.Seq.{take-set-lt, take-set-le, take-suc, take-suc-set, set-out}
+use lib.Seq.{take-set-lt, take-set-le, take-suc, take-suc-set, set-out, getD-set-other}
 use Rattle.model.specs.declared.System.{System as StoredSystem}
 use Rattle.model.specs.declared.Memory.{Memory as StoredMemory}
 use Rattle.model.specs.Memory.{System, blank, systemAt}
@@ -39,13 +39,13 @@ stored-last l n s h = rw (add-one, take-suc-set l n s) (map-append systemOf (tak
 
 -- ---- a removal
 
--- what comes to index i stood at an index that is one more at most
-pub kept-within : (hole i : ℕ) → keptAt hole i ≤ i + 1
+-- what comes to index i stood there, or one further
+pub kept-within : (hole i : ℕ) → (i ≤ keptAt hole i) × (keptAt hole i ≤ i + 1)
 kept-within hole i = go (decLt i hole)
   where
-    go : Dec (i < hole) → keptAt hole i ≤ i + 1
-    go (yes h) = rw (lt-ltb i hole h) (omega arith)
-    go (no h) = rw (le-ltb i hole (omega arith)) (omega arith)
+    go : Dec (i < hole) → (i ≤ keptAt hole i) × (keptAt hole i ≤ i + 1)
+    go (yes h) = rw (lt-ltb i hole h) (omega arith, omega arith)
+    go (no h) = rw (le-ltb i hole (omega arith)) (omega arith, omega arith)
 
 -- it is the place that the laws of a removal name
 kept-old : (a i : ℕ) → 0 < a → old a (suc i) ≡ suc (keptAt (a - 1) i)
@@ -55,9 +55,19 @@ kept-old a i pos = go (decLt i (a - 1))
     go (yes h) = rw (old-low a (suc i) (omega arith), lt-ltb i (a - 1) h)
     go (no h) = rw (old-high a (suc i) (omega arith), le-ltb i (a - 1) (omega arith)) (omega arith)
 
+-- the system at a place from 1 on
+at-place : (l : List System) (a : ℕ) → 0 < a → systemAt l a ≡ getD l (a - 1) blank
+unfolding systemAt
+at-place l zero h = absurd (omega arith)
+at-place l (suc i) h = let e : suc i - 1 ≡ i = omega arith in rw e
+
 module _ (m : StoredMemory) (k : ℕ) (long : length (m .systems) ≡ 16) (count : k ≡ min (m .count) 16) (a : ℕ) (pos : 0 < a) (there : a ≤ k) where
   pub length-without : length (without (systemsOf m) a) ≡ k - 1
   length-without = let n = length-systems m k long count in without-length (systemsOf m) a pos (omega arith) ∙ omega arith
+
+  -- the system that goes, as it was stored
+  pub gone-at : systemAt (systemsOf m) a ≡ systemOf (getD (m .systems) (a - 1) unset)
+  gone-at = at-place (systemsOf m) a pos ∙ system-at m k long count (a - 1) (omega arith)
 
   -- the system that comes to index i, as it was stored
   pub without-at : (i : ℕ) → i < k - 1 → getD (without (systemsOf m) a) i blank ≡ mendedSystem a (systemAt (systemsOf m) a .pred) (systemOf (getD (m .systems) (keptAt (a - 1) i) unset))
@@ -71,3 +81,7 @@ module _ (m : StoredMemory) (k : ℕ) (long : length (m .systems) ≡ 16) (count
 -- an array that is filled in order with what stands for the elements of a list: one turn
 pub stored-turn : (xs : List StoredSystem) (l : List System) (i : ℕ) (s : StoredSystem) → i < length xs → i < length l → map systemOf (take i xs) ≡ take i l → systemOf s ≡ getD l i blank → map systemOf (take (i + 1) (set xs i s)) ≡ take (i + 1) l
 stored-turn xs l i s hx hl e es = stored-last xs i s hx ∙ rw (add-one, take-suc l i blank, ← es, ← e)
+
+-- behind what is stored all is as it was
+pub still-turn : (xs ys : List StoredSystem) (i : ℕ) (s : StoredSystem) → ((j : ℕ) → i ≤ j → getD xs j unset ≡ getD ys j unset) → (j : ℕ) → i + 1 ≤ j → getD (set xs i s) j unset ≡ getD ys j unset
+still-turn xs ys i s e j h = getD-set-other xs i j s unset (λ q. omega arith) ∙ e j (omega arith)

@@ -16,7 +16,7 @@ use Rattle.model.specs.Chain.{noRing}
 use Rattle.model.specs.WellFormed.{isKind, systemFine, namesDiffer, enabledFine, memoryFine, wellFormed}
 use Rattle.model.specs.Stored.{systemOf, systemsOf, memoryOf, stateOf, nameShaped, memoryShaped, shaped}
 use Rattle.model.proofs.Basics.{and-assoc}
-use Rattle.memory.proofs.Tests.{and-true, and-false}
+use Rattle.text.proofs.Lists.{and-true, and-false}
 use Rattle.memory.specs.Fine.{aloneFine, storedFine, storedAllFine}
 
 pub alone-and-link : (l : List System) (s : System) → systemFine l s ≡ aloneFine s && isKind l (s .kind) (s .pred)

@@ -1,5 +1,4 @@
-// Edits of a memory by places: a system put, linked, removed. A search by name gives the places.
-use crate::find::system_at;
+// Edits of a memory by places: a system put or removed. A search by name gives the places.
 use crate::kinds::group_of;
 use chains::links::held;
 use model::Enabled;
@@ -17,7 +16,7 @@ ghost use mathlib.Core.Bool.{true};
 ghost use mathlib.Core.List.{List};
 ghost use lib.ListN.{length};
 ghost use Rattle.model.specs.Limits.{maxSystems};
-ghost use Rattle.model.specs.Memory.{System as SystemOf, systemAt};
+ghost use Rattle.model.specs.Memory.{System as SystemOf};
 ghost use Rattle.model.specs.Effects.{withPred, withName, firstPred, fresh, movedUp, mended, mendedSystem, mendedPart, mendedEnabled, removedAt};
 ghost use Rattle.model.specs.Stored.{bytesOf, systemOf, systemsOf, memoryOf, nameShaped, memoryShaped};
 ghost use Rattle.memory.specs.Put.{putAt, holding, keptAt};
@@ -41,15 +40,14 @@ pub fn put_at(m: Memory, place: u8, s: System) -> Memory
     r
 }
 
-// The memory with another predecessor for the system at a place.
-pub fn link_at(m: Memory, place: u8, pred: u8) -> Memory
-    requires { ⌜ (0 < place) × (place ≤ maxSystems) ⌝ }
-    ensures { λ r. ⌜ memoryOf r ≡ putAt (memoryOf m) place (withPred (systemAt (systemsOf m) place) pred) ⌝ }
-    ensures { λ r. ⌜ (memoryShaped m ≡ true → memoryShaped r ≡ true) ⌝ }
+// The system with another predecessor.
+pub fn relinked(s: System, pred: u8) -> System
+    ensures { λ r. ⌜ systemOf r ≡ withPred (systemOf s) pred ⌝ }
+    ensures { λ r. ⌜ r .name ≡ s .name ⌝ }
 {
-    let mut s = system_at(m, place);
-    s.pred = pred;
-    put_at(m, place, s)
+    let mut r = s;
+    r.pred = pred;
+    r
 }
 
 // The system under another name.
@@ -112,9 +110,7 @@ fn mended_system(a: u8, p: u8, s: System) -> System
     ensures { λ r. ⌜ systemOf r ≡ mendedSystem a p (systemOf s) ⌝ }
     ensures { λ r. ⌜ r .name ≡ s .name ⌝ }
 {
-    let mut r = s;
-    r.pred = mended_place(a, p, s.pred);
-    r
+    relinked(s, mended_place(a, p, s.pred))
 }
 
 fn mended_part(a: u8, p: u8, o: OperatingPart) -> OperatingPart
@@ -149,19 +145,19 @@ pub fn removed_at(m: Memory, place: u8) -> Memory
     ensures { λ r. ⌜ memoryOf r ≡ removedAt (memoryOf m) place ⌝ }
     ensures { λ r. ⌜ (memoryShaped m ≡ true → memoryShaped r ≡ true) ⌝ }
 {
-    let gone = system_at(m, place);
-    let p = gone.pred;
     let last = held(m.count) - 1;
     let hole = place as usize - 1;
     let mut r = m;
+    let gone = r.systems[hole];
+    let p = gone.pred;
     let mut i = 0;
     while i < last {
         let at = kept_at(hole, i);
-        let s = m.systems[at];
+        let s = r.systems[at];
         r.systems[i] = mended_system(place, p, s);
         i += 1;
     }
-    let e = m.enabled;
+    let e = r.enabled;
     let enabled = mended_enabled(place, p, e);
     r.count = last as u8;
     r.enabled = enabled;

@@ -1,17 +1,16 @@
 // What is enabled next.
 use crate::find::Found;
-use crate::find::system_at;
 use model::Enabled;
 use model::Group;
 use model::Kind;
-use model::Memory;
 use model::OperatingPart;
 ghost use mathlib.Core.Path.{_≡_};
-ghost use Rattle.model.specs.Memory.{refOr};
+ghost use mathlib.Core.List.{List};
+ghost use Rattle.model.specs.Memory.{System as SystemOf, refOr, systemAt};
 ghost use Rattle.model.specs.Effects.{workHalf, toolHalf, withOperating, withOrientational, withLevelling, enabledUser, enabledFixed, enabling};
 ghost use Rattle.model.specs.Use.{inGroup};
-ghost use Rattle.model.specs.Stored.{systemsOf, memoryOf};
-ghost use Rattle.memory.specs.Found.{foundRef};
+ghost use Rattle.memory.specs.Found.{foundRef, foundPlace};
+ghost use Rattle.memory.specs.Put.{holding};
 
 fn work_half(o: OperatingPart) -> u8
     ensures { λ r. ⌜ r ≡ workHalf o ⌝ }
@@ -92,26 +91,23 @@ fn enabled_zero(level: u8, e: Enabled) -> Enabled
     zero
 }
 
-// The system of a group at a place: 0 is the fixed one.
-fn enabling_at(level: u8, m: Memory, group: Group, place: u8) -> Enabled
-    ensures { λ r. ⌜ r ≡ enabling level (memoryOf m) (inGroup group place) ⌝ }
+// The system of a group at a place, by its type: place 0 is the fixed one.
+fn enabling_at(level: u8, e: Enabled, kind: Kind, group: Group, place: u8) -> Enabled
+    ensures { λ r. ⌜ ((l : List SystemOf) → kind ≡ systemAt l place .kind → r ≡ enabling level (holding l e) (inGroup group place)) ⌝ }
 {
-    let e = m.enabled;
     if place == 0 {
         return enabled_fixed(level, e, group);
     }
-    let s = system_at(m, place);
-    let kind = s.kind;
     enabled_user(e, kind, place)
 }
 
-// What is enabled once the system that was found is. Nothing found counts as ZERO, as in the definitions.
-pub fn enabling(level: u8, m: Memory, f: Found) -> Enabled
-    ensures { λ r. ⌜ r ≡ enabling level (memoryOf m) (refOr (foundRef (systemsOf m) f)) ⌝ }
+// What is enabled once the system that was found is; kind is the type at its place. Nothing found counts as ZERO, as in the definitions.
+pub fn enabling(level: u8, e: Enabled, kind: Kind, f: Found) -> Enabled
+    ensures { λ r. ⌜ ((l : List SystemOf) → kind ≡ systemAt l (foundPlace f) .kind → r ≡ enabling level (holding l e) (refOr (foundRef l f))) ⌝ }
 {
     match f {
-        Found::User(place) => enabling_at(level, m, Group::Operating, place),
-        Found::Fixed(group) => enabling_at(level, m, group, 0),
-        Found::Absent => enabling_at(level, m, Group::Operating, 0),
+        Found::User(place) => enabling_at(level, e, kind, Group::Operating, place),
+        Found::Fixed(group) => enabling_at(level, e, kind, group, 0),
+        Found::Absent => enabling_at(level, e, kind, Group::Operating, 0),
     }
 }

@@ -1,20 +1,27 @@
-// A system by its name or its place. Every stored value has an answer: a count beyond the array means the whole array.
+// Systems by their names. Every stored value has an answer: a count beyond the array means the whole array.
 use crate::factory::blank_system;
 use crate::names::clipped;
 use crate::names::same_name;
+use chains::links::Links;
 use chains::links::held;
+use model::Enabled;
 use model::Group;
 use model::Memory;
 use model::Name;
 use model::System;
 use text::names::same_bytes;
 ghost use mathlib.Core.Path.{_≡_};
-ghost use mathlib.Core.Bool.{true};
+ghost use mathlib.Core.Bool.{_&&_};
 ghost use mathlib.Core.List.{List};
-ghost use Rattle.model.specs.Memory.{System as SystemOf, placeNamed, fixedNamed, systemAt, find};
+ghost use lib.Dec.{eqb};
+ghost use lib.ListN.{length};
+ghost use Rattle.model.specs.Lists.{same};
+ghost use Rattle.model.specs.Memory.{System as SystemOf, placeNamed, fixedNamed, find};
 ghost use Rattle.model.specs.Kinds.{groups};
-ghost use Rattle.model.specs.Stored.{bytesOf, systemOf, systemsOf, memoryOf, nameShaped, memoryShaped};
-ghost use Rattle.memory.specs.Found.{foundRef, foundPlace};
+ghost use Rattle.model.specs.Stored.{bytesOf, systemOf, systemsOf};
+ghost use Rattle.chains.specs.Flat.{LinksOf};
+ghost use Rattle.memory.specs.Found.{foundRef, foundPlace, Stands};
+ghost use Rattle.memory.specs.Put.{holding};
 
 // What a name means: the user system at a place, a group's fixed system, or nothing.
 pub enum Found {
@@ -23,21 +30,61 @@ pub enum Found {
     Absent,
 }
 
-// The place of the user system of that name, 0 if there is none.
-pub fn place_named(m: Memory, n: Name) -> u8
-    ensures { λ r. ⌜ r ≡ placeNamed (systemsOf m) (bytesOf n) ⌝ }
+// Where two names stand: their places, 0 where no user system has the name, and the systems there, blank ones at place 0. The links lie beside them.
+pub struct Places {
+    pub first: u8,
+    pub one: System,
+    pub second: u8,
+    pub other: System,
+    pub links: Links,
+}
+
+// A name that has no place yet is this system's.
+fn hits(place: u8, n: Name, s: System) -> bool
+    ensures { λ r. ⌜ r ≡ eqb place 0 && same (bytesOf n) (systemOf s .name) ⌝ }
+{
+    if place != 0 {
+        return false;
+    }
+    let name = s.name;
+    same_name(n, name)
+}
+
+// Both names and the links in one pass over the memory, since each pass copies it.
+pub fn places_named(m: Memory, a: Name, b: Name) -> Places
+    ensures { λ r. ⌜ Stands m (bytesOf a) (r .first) (r .one) ⌝ }
+    ensures { λ r. ⌜ Stands m (bytesOf b) (r .second) (r .other) ⌝ }
+    ensures { λ r. ⌜ LinksOf (systemsOf m) (r .links .preds) (r .links .count) ⌝ }
+    ensures { λ r. ⌜ r .links .count ≡ length (systemsOf m) ⌝ }
 {
     let count = held(m.count);
+    let mut first = 0;
+    let mut one = blank_system();
+    let mut second = 0;
+    let mut other = one;
+    let mut preds = [0u8; 16];
     let mut i = 0;
     while i < count {
         let s = m.systems[i];
-        let name = s.name;
-        if same_name(n, name) {
-            return i as u8 + 1;
+        preds[i] = s.pred;
+        if hits(first, a, s) {
+            first = i as u8 + 1;
+            one = s;
+        }
+        if hits(second, b, s) {
+            second = i as u8 + 1;
+            other = s;
         }
         i += 1;
     }
-    0
+    let links = Links { preds, count };
+    Places {
+        first,
+        one,
+        second,
+        other,
+        links,
+    }
 }
 
 // The fixed system of that name.
@@ -57,32 +104,15 @@ fn fixed_named(t: &[u8]) -> Found
     Found::Absent
 }
 
-// The system of that name, user or fixed.
-pub fn find(m: Memory, n: Name) -> Found
-    ensures { λ r. ⌜ foundRef (systemsOf m) r ≡ find (memoryOf m) (bytesOf n) ⌝ }
-    ensures { λ r. ⌜ foundPlace r ≡ placeNamed (systemsOf m) (bytesOf n) ⌝ }
+// What a name means whose user system stands at a place, 0 if it has none.
+pub fn found_at(place: u8, n: Name) -> Found
+    ensures { λ r. ⌜ ((l : List SystemOf) (e : Enabled) → place ≡ placeNamed l (bytesOf n) → foundRef l r ≡ find (holding l e) (bytesOf n)) ⌝ }
+    ensures { λ r. ⌜ foundPlace r ≡ place ⌝ }
 {
-    let place = place_named(m, n);
     if 0 < place {
         return Found::User(place);
     }
     let k = clipped(n.len);
     let x = n.bytes;
     fixed_named(&x[..k])
-}
-
-// The user system at a place; the blank one where there is none.
-pub fn system_at(m: Memory, place: u8) -> System
-    ensures { λ r. ⌜ systemOf r ≡ systemAt (systemsOf m) place ⌝ }
-    ensures { λ r. ⌜ (memoryShaped m ≡ true → nameShaped r ≡ true) ⌝ }
-{
-    if place == 0 {
-        return blank_system();
-    }
-    let count = held(m.count);
-    let at = place as usize - 1;
-    if count <= at {
-        return blank_system();
-    }
-    m.systems[at]
 }

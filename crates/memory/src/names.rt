@@ -1,11 +1,13 @@
 // Names and texts: the same bytes, and what makes a name legal. A length beyond its array means the whole array.
 use model::Name;
+use text::names::name_byte;
 use text::names::same_bytes;
+use text::words::between;
 ghost use mathlib.Core.Path.{_≡_};
 ghost use Prim.Native.Nat.{min};
 ghost use mathlib.Core.Bool.{not, _&&_};
 ghost use Rattle.model.specs.Lists.{same};
-ghost use Rattle.model.specs.Words.{capital, nameByte, legalName, reserved};
+ghost use Rattle.model.specs.Words.{legalName, reserved};
 ghost use Rattle.model.specs.Stored.{bytesOf};
 
 // How many bytes a stored name has.
@@ -28,18 +30,6 @@ pub fn same_name(a: Name, b: Name) -> bool
     same_bytes(&x[..m], &y[..n])
 }
 
-fn capital_byte(b: u8) -> bool
-    ensures { λ r. ⌜ r ≡ capital b ⌝ }
-{
-    (65 <= b) & (b <= 90)
-}
-
-fn name_byte(b: u8) -> bool
-    ensures { λ r. ⌜ r ≡ nameByte b ⌝ }
-{
-    capital_byte(b) | ((48 <= b) & (b <= 57)) | (b == 95)
-}
-
 // A name's bytes: a capital, then capitals, digits and underscores, 16 in all at most.
 pub fn legal_bytes(t: &[u8]) -> bool
     ensures { λ r. ⌜ r ≡ legalName (now (t .entry)) ⌝ }
@@ -51,7 +41,7 @@ pub fn legal_bytes(t: &[u8]) -> bool
     if 16 < n {
         return false;
     }
-    if !capital_byte(t[0]) {
+    if !between(65, 90, t[0]) {
         return false;
     }
     let mut i = 1;

@@ -7,3 +7,4 @@ pub mod ShortLaws
 pub mod PlanLaws
 pub mod EnabledLaws
 pub mod ReachLaws
+pub mod KeptLaws

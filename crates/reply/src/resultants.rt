@@ -7,6 +7,8 @@ use crate::texts::group_of;
 use chains::frames::Reached;
 use chains::frames::frames_of;
 use chains::frames::reach;
+use chains::frames::reach_from;
+use chains::frames::unmoved;
 use chains::links::links_of;
 use model::Group;
 use model::Memory;
@@ -46,6 +48,8 @@ fn put_further_reached(part: &mut [u8], name: Name, g: Group, r: Reached) -> usi
     put_reached(part, a, name, g, r)
 }
 
+// What is reached from each place is kept, so that a system whose predecessor comes first is one link on from it. Place 0
+// is the fixed systems'.
 pub fn resultants(m: Memory, reply: &mut [u8]) -> usize
     requires { ⌜ Ready m (now reply) ⌝ }
     ensures { λ r. ⌜ Replied (listed (memoryOf m) resultants) (now (reply .entry)) (now (reply .exit)) r ⌝ }
@@ -56,12 +60,17 @@ pub fn resultants(m: Memory, reply: &mut [u8]) -> usize
     let offsets = frames.offsets;
     let turns = frames.turns;
     let count = m.count as usize;
+    let start = unmoved();
+    let mut known = [start; 17];
     let mut at = put_fixed_resultants(reply);
     let mut i = 0;
     while i < count {
         let s = m.systems[i];
         let kind = s.kind;
-        let r = reach(&offsets, &turns, &preds[..count], i + 1, 16);
+        let pred = preds[i] as usize;
+        let before = known[pred];
+        let r = reach_from(before, &offsets, &turns, &preds[..count], i);
+        known[i + 1] = r;
         let n = put_further_reached(&mut reply[at..], s.name, group_of(kind), r);
         at += n;
         i += 1;

@@ -1,8 +1,8 @@
 // Bytes as pairs of hexadecimal digits, read and written in one pass.
+use text::words::between;
 ghost use mathlib.Core.Path.{_≡_};
 ghost use Prim.Native.Nat.{_+_, _*_, _≤_, _<_};
 ghost use lib.ListN.{length};
-ghost use Rattle.model.specs.Lists as lists;
 ghost use Rattle.print.specs.Over.{Wrote};
 ghost use Rattle.script.specs.Hex.{digitValue, Decodes, glyph, hexed};
 
@@ -10,12 +10,6 @@ ghost use Rattle.script.specs.Hex.{digitValue, Decodes, glyph, hexed};
 pub struct Decoded {
     pub ok: bool,
     pub count: usize,
-}
-
-pub(crate) fn between(low: u8, high: u8, b: u8) -> bool
-    ensures { λ r. ⌜ r ≡ lists.between low high b ⌝ }
-{
-    low <= b && b <= high
 }
 
 // What a digit counts for, in either case; 16 for any other byte.

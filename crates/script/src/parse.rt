@@ -1,8 +1,8 @@
 // A line of a script: which directive it is, its length, and its bytes, decoded into a lent buffer.
 use crate::hex::Decoded;
-use crate::hex::between;
 use crate::hex::decode;
 use text::words::Word;
+use text::words::between;
 use text::words::next_word;
 ghost use mathlib.Core.Path.{_≡_};
 ghost use mathlib.Core.List.{List, [], _∷_};

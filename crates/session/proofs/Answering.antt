@@ -1,10 +1,12 @@
 -- From what the engine gives for a line to what is said.
 use Prim.Native.Nat.{ℕ, _≤_}
 use mathlib.Core.Path.{_≡_, refl, sym, ap, _∙_}
-use mathlib.Core.List.{List, [], _++_}
-use mathlib.Core.Bool.{true, false}
+use mathlib.Core.List.{List}
+use mathlib.Core.Bool.{true}
 use mathlib.Core.Logic.{⊎-elim}
 use native.Mathlib.Omega.{arith}
+use borrow.Author.Tests.{eqb-true, eqb-false}
+use lib.Dec.{eqb}
 use lib.ListN.{length, drop, length-append}
 use Rattle.model.specs.Ascii.{ascii}
 use Rattle.model.specs.Reply.{decimal}
@@ -13,20 +15,18 @@ use Rattle.print.proofs.Laws.{decimal-short, over-front}
 use Rattle.model.specs.declared.State.{State as StoredState}
 use Rattle.model.specs.Limits.{bufferLimit}
 use Rattle.model.specs.Memory.{State}
-use Rattle.model.specs.WellFormed.{wellFormed}
-use Rattle.model.specs.Machine.{Outcome, stepped, startFactory, written}
+use Rattle.model.specs.Machine.{Outcome, stepped, written}
 use Rattle.model.specs.Trace.{printed}
-use Rattle.model.specs.Stored.{View, holds, shapeless, Answered, ofOutcome, shaped, stateOf, viewOf}
+use Rattle.model.specs.Stored.{holds, shapeless, Answered, ofOutcome, shaped, stateOf, viewOf}
 use Rattle.model.proofs.Basics.{either}
 use Rattle.model.proofs.Kept.{well-formed-kept}
 use Rattle.engine.specs.declared.answer.Stepped.{Stepped}
 use Rattle.engine.specs.Fine.{Fine, answeredOf}
 use Rattle.engine.proofs.Views.{view-holds, view-shapeless}
 use Rattle.reply.specs.Lines.{Replied}
-use Rattle.session.specs.declared.feed.Answer.{Answer}
 use Rattle.session.specs.Feed.{lent, said, outcome}
-use Rattle.session.specs.Blocks.{refusalText, Answers}
-use Rattle.session.proofs.Buffer.{Seen, seen, any-buffer, taken-writes, turned-down}
+use Rattle.session.specs.Blocks.{refusalText, Says, Answers}
+use Rattle.session.proofs.Buffer.{Seen, seen, any-buffer, Writes, taken-writes, turned-down}
 use Rattle.session.proofs.Whole.{lent-long}
 
 -- ---- what a stored state stands for, from its view
@@ -47,7 +47,7 @@ view-is s st e =
 -- ---- lengths
 
 -- a text that was written over a buffer without making it longer fits
-pub fits : (t b : List ℕ) → length (written t b) ≡ length b → length t ≤ length b
+fits : (t b : List ℕ) → length (written t b) ≡ length b → length t ≤ length b
 fits t b e = omega (arith, e, length-append t (drop (length t) b))
 
 refusal-short : (n : ℕ) → length (refusalText n) ≤ 8
@@ -60,48 +60,59 @@ refusal-written k b d n h w =
 
 -- ---- one line
 
-module _ (s : StoredState) (fine : Fine s) (line b : List ℕ) (long : bufferLimit ≤ length b) (r : Stepped) (c : List ℕ)
-    (e : answeredOf r c ≡ ofOutcome (stepped (stateOf s) line b)) where
-  state-is : (shaped (r .state) ≡ true) × (stateOf (r .state) ≡ stepped (stateOf s) line b .state)
-  state-is = view-is (r .state) (stepped (stateOf s) line b .state) (ap (λ (a : Answered). a .state) e)
+module _ (s : StoredState) (fine : Fine s) (line b : List ℕ) (long : bufferLimit ≤ length b) (o : Outcome) (e : o ≡ stepped (stateOf s) line b) where
+  like-lent : seen o ≡ seen (outcome (stateOf s) line)
+  like-lent = ap seen e ∙ any-buffer (stateOf s) line b lent long lent-long
 
-  number-is : r .number ≡ stepped (stateOf s) line b .number
-  number-is = ap (λ (a : Answered). a .number) e
-
-  like-lent : seen (stepped (stateOf s) line b) ≡ seen (outcome (stateOf s) line)
-  like-lent = any-buffer (stateOf s) line b lent long lent-long
-
-  said-is : printed (stepped (stateOf s) line b) ≡ said (stateOf s) line
+  said-is : printed o ≡ said (stateOf s) line
   said-is = ap (λ (x : Seen). x .text) like-lent
 
-  -- the state is the next one, and fine, whatever was written
-  answers : (d : List ℕ) (n : ℕ) → Replied (said (stateOf s) line) b d n → n ≤ length b → Answers s line b d (record { state = r .state; written = n })
-  answers d n p h =
-      record {
-        puts = p;
-        room = h;
-        state = state-is .1 ∙ ap (λ (x : Seen). x .state) like-lent;
-        fine = record { shape = state-is .0; formed = rw (state-is .1) (well-formed-kept .line (stateOf s) line b (fine .formed)) };
-      }
-
   -- an accepted line: its reply stands in the buffer
-  pub answers-taken : length c ≡ length b → r .number ≡ 0 → Answers s line b c (record { state = r .state; written = r .length })
-  answers-taken kept z =
-      let w = taken-writes (stateOf s) line b (sym number-is ∙ z) in
-      answers c (r .length) (record {
-        count-is = ap (λ (a : Answered). a .count) e ∙ w .count ∙ ap length said-is;
-        bytes = ap (λ (a : Answered). a .buffer) e ∙ w .buffer ∙ ap (λ (t : List ℕ). written t b) said-is;
-      })
-      (rw (ap (λ (a : Answered). a .count) e ∙ w .count) (fits (printed (stepped (stateOf s) line b)) b (sym (ap length (ap (λ (a : Answered). a .buffer) e ∙ w .buffer)) ∙ kept)))
+  taken-puts : o .number ≡ 0 → Replied (said (stateOf s) line) b (o .buffer) (o .count)
+  taken-puts z =
+      let w : Writes o b = rw e (taken-writes (stateOf s) line b (sym (ap (λ (x : Outcome). x .number) e) ∙ z)) in
+      record { count-is = w .count ∙ ap length said-is; bytes = w .buffer ∙ ap (λ (t : List ℕ). written t b) said-is }
 
   -- a refused one: the buffer is as it was, and E and the number are written
-  pub answers-refused : (r .number ≡ 0 → ⊥) → (d : List ℕ) (n : ℕ) → Replied (refusalText (r .number)) c d n → Answers s line b d (record { state = r .state; written = n })
-  answers-refused z d n p =
-      let w = turned-down (stateOf s) line b (λ q. z (number-is ∙ q)) in
-      let text : refusalText (r .number) ≡ said (stateOf s) line = ap refusalText number-is ∙ sym (w .0) ∙ said-is in
-      let same : c ≡ b = ap (λ (a : Answered). a .buffer) e ∙ w .1 in
-      answers d n (record {
+  refused-puts : (o .number ≡ 0 → ⊥) → (d : List ℕ) (n : ℕ) → Replied (refusalText (o .number)) (o .buffer) d n → Replied (said (stateOf s) line) b d n
+  refused-puts z d n p =
+      let w : (printed o ≡ refusalText (o .number)) × (o .buffer ≡ b) = rw e (turned-down (stateOf s) line b (λ q. z (ap (λ (x : Outcome). x .number) e ∙ q))) in
+      let text : refusalText (o .number) ≡ said (stateOf s) line = sym (w .0) ∙ said-is in
+      record {
         count-is = p .count-is ∙ ap length text;
-        bytes = p .bytes ∙ ap (λ (t : List ℕ). written t c) text ∙ ap (λ (x : List ℕ). written (said (stateOf s) line) x) same;
-      })
-      (omega (arith, p .count-is, refusal-short (r .number), long))
+        bytes = p .bytes ∙ ap (λ (t : List ℕ). written t (o .buffer)) text ∙ ap (λ (x : List ℕ). written (said (stateOf s) line) x) (w .1);
+      }
+
+  says-puts : (d : List ℕ) (n : ℕ) → Says (o .number) (o .count) (o .buffer) d n → Replied (said (stateOf s) line) b d n
+  says-puts d n p =
+      ⊎-elim
+      (λ h. let z = eqb-true (o .number) 0 h in rw (p .taken z .0, p .taken z .1) (taken-puts z))
+      (λ h. let z = eqb-false (o .number) 0 h in refused-puts z d n (p .refused z))
+      (either (eqb (o .number) 0))
+
+  -- what is said fits
+  pub says-room : (d : List ℕ) (n : ℕ) → Says (o .number) (o .count) (o .buffer) d n → length d ≡ length b → n ≤ length b
+  says-room d n says kept =
+      let p = says-puts d n says in
+      rw (p .count-is) (fits (said (stateOf s) line) b (sym (ap length (p .bytes)) ∙ kept))
+
+  -- any stored state that stands for the next one will do
+  pub answers : (d : List ℕ) (n : ℕ) → Says (o .number) (o .count) (o .buffer) d n → length d ≡ length b →
+      (next : StoredState) → stateOf next ≡ o .state → shaped next ≡ true → Answers s line b d next n
+  answers d n says kept next state shape =
+      record {
+        puts = says-puts d n says;
+        room = says-room d n says kept;
+        state = state ∙ ap (λ (x : Seen). x .state) like-lent;
+        fine = record { shape = shape; formed = rw (state, e) (well-formed-kept .line (stateOf s) line b (fine .formed)) };
+      }
+
+-- the same where the state came back by value
+pub answers-obeyed : (s : StoredState) → Fine s → (line b : List ℕ) → bufferLimit ≤ length b → (r : Stepped) (c : List ℕ) →
+    answeredOf r c ≡ ofOutcome (stepped (stateOf s) line b) → (d : List ℕ) (n : ℕ) → Says (r .number) (r .length) c d n → length d ≡ length b →
+    Answers s line b d (r .state) n
+answers-obeyed s fine line b long r c e d n says kept =
+    let v = view-is (r .state) (stepped (stateOf s) line b .state) (ap (λ (a : Answered). a .state) e) in
+    let o : Outcome = record { state = stateOf (r .state); number = r .number; count = r .length; buffer = c } in
+    let whole : o ≡ stepped (stateOf s) line b = λ i. record { state = v .1 i; number = e i .number; count = e i .count; buffer = e i .buffer } in
+    answers s fine line b long o whole d n says kept (r .state) refl (v .0)

@@ -1,65 +1,36 @@
 -- A block on the way: what was answered up to a place, one line more, and where it stops.
 use Prim.Native.Nat.{ℕ, zero, suc, _+_, _-_, _≤_, _<_}
 use mathlib.Core.Path.{_≡_, refl, sym, ap, _∙_}
-use mathlib.Core.List.{List, [], _∷_, _++_, append-assoc}
+use mathlib.Core.List.{List, [], _∷_, _++_}
 use native.Mathlib.Omega.{arith}
-use native.Mathlib.Numerals.{add-one}
 use native.Mathlib.Nat.{zero-add, suc-add}
 use native.Mathlib.Decide.{decLt}
-use lib.ListN.{length, take, drop, length-append, length-take, length-drop, drop-of-length-le}
-use lib.Seq.{drop-drop, take-all, take-append-seam, drop-append-seam, take-append-add}
-use borrow.Rule.Slice.PartMut.{putMid}
+use lib.ListN.{length, take, drop, length-take, length-drop}
+use lib.Seq.{take-all}
 use Rattle.model.specs.declared.State.{State as StoredState}
 use Rattle.model.specs.Limits.{bufferLimit}
 use Rattle.model.specs.Memory.{State}
-use Rattle.model.specs.Machine.{written}
 use Rattle.model.specs.Stored.{stateOf}
 use Rattle.engine.specs.Fine.{Fine}
-use Rattle.reply.specs.Lines.{Replied}
 use Rattle.lines.specs.Before.{before}
 use Rattle.session.specs.declared.cut.Kept.{Kept}
-use Rattle.session.specs.declared.feed.Answer.{Answer}
-use Rattle.session.specs.Feed.{Held, Fed, fed, ended, said, outcome, enough, holding, printing, Keeps}
-use Rattle.session.specs.Blocks.{Answers, Feeds, Ends, heldOf}
+use Rattle.session.specs.Feed.{Fed, fed, ended, said, outcome, enough, holding, printing, Keeps}
+use Rattle.session.specs.Blocks.{Answers, Run, Runs, Feeds, Ends, heldOf}
 use Rattle.session.specs.declared.feed.Session.{Session}
+use Rattle.session.specs.declared.run.Ran.{Ran}
 use Rattle.model.specs.Lists.{none?}
 use Rattle.session.proofs.Cutting.{append-nil}
+use Rattle.session.proofs.Rest.{rest, withRest, rest-long, written-long, replied-more}
 use Rattle.session.proofs.Whole.{fed-append, said-clipped, state-clipped}
 use Rattle.session.proofs.Lines.{begun, fed-nothing, fed-ended, fed-held}
 
--- ---- one text behind another
-
-pub replied-more : (T t out₀ out y : List ℕ) (w n : ℕ) → Replied T out₀ out w → w ≤ length out₀ → length out ≡ length out₀ →
-    Replied t (take (length out - w) (drop w out)) y n → Replied (T ++ t) out₀ (putMid w (length out - w) out y) (w + n)
-replied-more T t out₀ out y w n a h long b =
-    let front : take w out ≡ T = rw (a .bytes, a .count-is) (take-append-seam T (drop (length T) out₀)) in
-    let back : drop w out ≡ drop (length T) out₀ = rw (a .bytes, a .count-is) (drop-append-seam T (drop (length T) out₀)) in
-    let all : take (length out - w) (drop w out) ≡ drop w out = take-all (length out - w) (drop w out) (rw (length-drop w out) (omega arith)) in
-    let none : drop (length out - w) (drop w out) ≡ [] = drop-of-length-le (drop w out) {i = length out - w} (rw (length-drop w out) (omega arith)) in
-    let ey : y ≡ t ++ drop (length t) (drop (length T) out₀) = b .bytes ∙ rw (all, back) refl in
-    record {
-      count-is = rw (length-append T t) (omega (arith, a .count-is, b .count-is));
-      bytes = rw (front, none, append-nil y, ey, length-append T t, append-assoc, drop-drop (length t) (length T) out₀) refl;
-    }
+-- ---- the run over a block
 
 -- as many more bytes
 take-more : (l : List ℕ) (k n : ℕ) → k ≤ length l → take (k + n) l ≡ take k l ++ take n (drop k l)
 take-more l zero n h = ap (λ (j : ℕ). take j l) (zero-add n)
 take-more [] (suc k) n h = absurd (omega arith)
 take-more (x ∷ l) (suc k) n h = ap (λ (j : ℕ). take j (x ∷ l)) (suc-add k n) ∙ ap (λ (t : List ℕ). x ∷ t) (take-more l k n (omega arith))
-
-written-long : (t b : List ℕ) → length t ≤ length b → length (written t b) ≡ length b
-written-long t b h = omega (arith, length-append t (drop (length t) b), length-drop (length t) b)
-
--- ---- the run over a block
-
-pub record Run (st₀ : State) (block out₀ out : List ℕ) (s : StoredState) (at w : ℕ) : Type 0 where
-  pub within : at ≤ length block
-  pub fine : Fine s
-  pub held : fed st₀ [] (take at block) .held ≡ holding (stateOf s) []
-  pub puts : Replied (fed st₀ [] (take at block) .output) out₀ out w
-  pub room : w ≤ length out₀
-  pub long : length out ≡ length out₀
 
 pub run-start : (s : StoredState) (block out : List ℕ) → Fine s → Run (stateOf s) block out out s 0 0
 run-start s block out f =
@@ -97,15 +68,14 @@ module _ (st₀ : State) (block out₀ out : List ℕ) (s : StoredState) (at w :
       ∙ ap (printing (fed st₀ [] (take at block) .output)) (fed-ended (drop at block) st [] (rw (length-drop at block) (omega arith)) ∙ rw (said-clipped st (lineAt block at), state-clipped st (lineAt block at)) refl)
 
   -- a line is answered
-  pub run-turn : (end : ℕ) → end ≡ at + before (drop at block) → end < length block → (line y : List ℕ) (r : Answer) → line ≡ lineAt block at →
-      Answers s line (take (length out - w) (drop w out)) y r →
-      Run st₀ block out₀ (putMid w (length out - w) out y) (r .state) (end + 1) (w + r .written)
-  run-turn end e h line y r l a =
+  pub run-turn : (end : ℕ) → end ≡ at + before (drop at block) → end < length block → (line y : List ℕ) (next : StoredState) (n : ℕ) → line ≡ lineAt block at →
+      Answers s line (rest out w) y next n →
+      Run st₀ block out₀ (withRest out w y) next (end + 1) (w + n)
+  run-turn end e h line y next n l a =
       let f = turned end e h in
       let said-line : said (stateOf s) line ≡ said (stateOf s) (lineAt block at) = ap (said (stateOf s)) l in
-      let left : length (take (length out - w) (drop w out)) ≤ length out - w = rw (length-take (length out - w) (drop w out)) (omega arith) in
-      let p = replied-more (fed st₀ [] (take at block) .output) (said (stateOf s) line) out₀ out y w (r .written) (run .puts) (run .room) (run .long) (a .puts) in
-      let roomy : w + r .written ≤ length out₀ = omega (arith, a .room, left, run .room, run .long) in
+      let p = replied-more (fed st₀ [] (take at block) .output) (said (stateOf s) line) out₀ out y w n (run .puts) (run .room) (run .long) (a .puts) in
+      let roomy : w + n ≤ length out₀ = omega (arith, a .room, rest-long out w, run .room, run .long) in
       record {
         within = omega arith;
         fine = a .fine;
@@ -115,56 +85,63 @@ module _ (st₀ : State) (block out₀ out : List ℕ) (s : StoredState) (at w :
         long = ap length (p .bytes) ∙ written-long (fed st₀ [] (take at block) .output ++ said (stateOf s) line) out₀ (omega (arith, p .count-is, roomy));
       }
 
-  -- the rest of the block has no LF: it is held
-  pub run-whole : (end : ℕ) → end ≡ at + before (drop at block) → length block ≤ end → end ≤ length block → (k : Kept) → Keeps (drop at block) k → (0 < length block → 0 < end) →
-      (s₀ : StoredState) → stateOf s₀ ≡ st₀ →
-      Feeds s₀ [] block out₀ out (record { session = record { state = s; held = k }; used = end; written = w })
-  run-whole end e h m k keeps moves s₀ same =
-      let st = stateOf s in
-      let rest : length (drop at block) ≡ length block - at = length-drop at block in
-      let f : fed st₀ [] (take end block) ≡ printing (fed st₀ [] (take at block) .output) (record { held = holding st (take enough (drop at block)); output = [] }) =
-      ap (λ (j : ℕ). fed st₀ [] (take j block)) e
-      ∙ more st₀ block at (before (drop at block)) st (run .within) (run .held)
-      ∙ ap (printing (fed st₀ [] (take at block) .output)) (ap (fed st []) (take-all (before (drop at block)) (drop at block) (omega arith)) ∙ fed-held (drop at block) st [] (omega arith)) in
-      record {
-        within = m;
-        moves = moves;
-        puts = rw (same, f, append-nil (fed st₀ [] (take at block) .output)) (run .puts);
-        room = run .room;
-        held = rw (same, f, keeps .bytes) refl;
-        few = keeps .count;
-        fine = run .fine;
-      }
-
-  -- no room for another answer: nothing is held
-  pub run-stop : (k : Kept) → k .count ≡ 0 → (0 < length block → 0 < at) → (s₀ : StoredState) → stateOf s₀ ≡ st₀ →
-      Feeds s₀ [] block out₀ out (record { session = record { state = s; held = k }; used = at; written = w })
-  run-stop k none moves s₀ same =
-      record {
-        within = run .within;
-        moves = moves;
-        puts = rw same (run .puts);
-        room = run .room;
-        held = rw (same, run .held, none) refl;
-        few = omega (arith, none);
-        fine = run .fine;
-      }
-
-  -- where nothing was answered, nothing was used
-  pub run-none : at ≡ 0 → w ≡ 0
+  -- where nothing was used, nothing was answered
+  run-none : at ≡ 0 → w ≡ 0
   run-none z = run .puts .count-is ∙ ap (λ (x : Fed). length (x .output)) (ap (λ (j : ℕ). fed st₀ [] (take j block)) z ∙ fed-nothing st₀ [])
+
+-- ---- what a run leaves
 
 -- what is kept of the rest of a block, where nothing was held before
 pub keeps-rest : (k₀ k : Kept) (l : List ℕ) (n : ℕ) → k₀ .count ≡ 0 → length l ≤ n → Keeps (take (k₀ .count) (k₀ .bytes) ++ take n l) k → Keeps l k
 keeps-rest k₀ k l n z h p = record { bytes = p .bytes ∙ rw (z, take-all n l h) refl; count = p .count }
 
 -- an answer was written, so something was used
-pub moved : (at w n : ℕ) → bufferLimit ≤ n → (at ≡ 0 → w ≡ 0) → n - w < bufferLimit → 0 < at
+moved : (at w n : ℕ) → bufferLimit ≤ n → (at ≡ 0 → w ≡ 0) → n - w < bufferLimit → 0 < at
 moved at w n h f g =
     elim (decLt 0 at) [
       | yes p ↦ p
       | no q ↦ absurd (omega (arith, f (omega arith)))
     ]
+
+module _ (s₀ : StoredState) (block out₀ out : List ℕ) (r : Ran) (runs : Runs s₀ block out₀ out r) (end : ℕ) (e : end ≡ r .used + before (drop (r .used) block)) where
+  -- the rest of the block has no LF: it is held
+  pub run-whole : end ≡ length block → (k : Kept) → Keeps (drop (r .used) block) k →
+      Feeds s₀ [] block out₀ out (record { session = record { state = r .state; held = k }; used = end; written = r .written })
+  run-whole h k keeps =
+      let st₀ = stateOf s₀ in
+      let st = stateOf (r .state) in
+      let at = r .used in
+      let run = runs .run in
+      let long : length (drop at block) ≡ length block - at = length-drop at block in
+      let f : fed st₀ [] (take end block) ≡ printing (fed st₀ [] (take at block) .output) (record { held = holding st (take enough (drop at block)); output = [] }) =
+      ap (λ (j : ℕ). fed st₀ [] (take j block)) e
+      ∙ more st₀ block at (before (drop at block)) st (run .within) (run .held)
+      ∙ ap (printing (fed st₀ [] (take at block) .output)) (ap (fed st []) (take-all (before (drop at block)) (drop at block) (omega arith)) ∙ fed-held (drop at block) st [] (omega arith)) in
+      record {
+        within = omega arith;
+        moves = λ m. omega arith;
+        puts = rw (f, append-nil (fed st₀ [] (take at block) .output)) (run .puts);
+        room = run .room;
+        held = rw (f, keeps .bytes) refl;
+        few = keeps .count;
+        fine = run .fine;
+      }
+
+  -- no room for another answer: nothing is held
+  pub run-stop : end < length block → bufferLimit ≤ length out₀ → (k : Kept) → k .count ≡ 0 →
+      Feeds s₀ [] block out₀ out (record { session = record { state = r .state; held = k }; used = r .used; written = r .written })
+  run-stop h room k none =
+      let run = runs .run in
+      let full = runs .stops (omega arith) in
+      record {
+        within = run .within;
+        moves = λ m. moved (r .used) (r .written) (length out) (omega (arith, run .long)) (run-none (stateOf s₀) block out₀ out (r .state) (r .used) (r .written) run) full;
+        puts = run .puts;
+        room = run .room;
+        held = rw (run .held, none) refl;
+        few = omega (arith, none);
+        fine = run .fine;
+      }
 
 -- ---- the end of the input
 
@@ -183,26 +160,26 @@ ends-none s b z =
     let e = ended-none (stateOf (s .state)) (heldOf s .line) z in
     record { puts = record { count-is = ap length (sym e); bytes = rw e refl }; room = omega arith }
 
-pub ends-answered : (s : Session) (b d : List ℕ) (r : Answer) → 0 < length (heldOf s .line) → Answers (s .state) (heldOf s .line) b d r → Ends s b d (r .written)
-ends-answered s b d r h a = record { puts = rw (ended-some (stateOf (s .state)) (heldOf s .line) h) (a .puts); room = a .room }
+pub ends-answered : (s : Session) (b d : List ℕ) (next : StoredState) (n : ℕ) → 0 < length (heldOf s .line) → Answers (s .state) (heldOf s .line) b d next n → Ends s b d n
+ends-answered s b d next n h a = record { puts = rw (ended-some (stateOf (s .state)) (heldOf s .line) h) (a .puts); room = a .room }
 
 -- ---- the line that was held
 
 -- the held line ends in the block
-pub held-ends : (s : Session) (block b d : List ℕ) (end : ℕ) (k : Kept) (r : Answer) (nothing : Kept) →
+pub held-ends : (s : Session) (block b d : List ℕ) (end : ℕ) (k : Kept) (next : StoredState) (n : ℕ) (nothing : Kept) →
     s .held .count ≤ enough → end ≡ 0 + before (drop 0 block) → end < length block →
-    Keeps (heldOf s .line ++ take end block) k → Answers (s .state) (take (k .count) (k .bytes)) b d r → nothing .count ≡ 0 →
-    Feeds (s .state) (heldOf s .line) block b d (record { session = record { state = r .state; held = nothing }; used = end + 1; written = r .written })
-held-ends s block b d end k r nothing few e h keeps a none =
+    Keeps (heldOf s .line ++ take end block) k → Answers (s .state) (take (k .count) (k .bytes)) b d next n → nothing .count ≡ 0 →
+    Feeds (s .state) (heldOf s .line) block b d (record { session = record { state = next; held = nothing }; used = end + 1; written = n })
+held-ends s block b d end k next n nothing few e h keeps a none =
     let st = stateOf (s .state) in
     let l = heldOf s .line in
     let short : length l ≤ enough = rw (length-take (s .held .count) (s .held .bytes)) (omega arith) in
-    let n : end ≡ before block = omega arith in
-    let next : end + 1 ≡ suc (before block) = omega arith in
+    let place : end ≡ before block = omega arith in
+    let after : end + 1 ≡ suc (before block) = omega arith in
     let clip : take enough l ≡ l = take-all enough l short in
     let f : fed st l (take (end + 1) block) ≡ record { held = holding (outcome st (take enough (l ++ take end block)) .state) []; output = said st (take enough (l ++ take end block)) } =
-    ap (λ (j : ℕ). fed st l (take j block)) next ∙ ap (λ (t : List ℕ). fed st t (take (suc (before block)) block)) (sym clip) ∙ fed-ended block st l (omega arith)
-    ∙ ap (λ (j : ℕ). begun (outcome st (take enough (l ++ take j block)) .state) (said st (take enough (l ++ take j block)))) (sym n) in
+    ap (λ (j : ℕ). fed st l (take j block)) after ∙ ap (λ (t : List ℕ). fed st t (take (suc (before block)) block)) (sym clip) ∙ fed-ended block st l (omega arith)
+    ∙ ap (λ (j : ℕ). begun (outcome st (take enough (l ++ take j block)) .state) (said st (take enough (l ++ take j block)))) (sym place) in
     record {
       within = omega arith;
       moves = λ m. omega arith;

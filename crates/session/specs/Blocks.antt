@@ -1,19 +1,22 @@
 -- What a block of input does to a session that is stored: the definitions of Feed.antt, with the lent buffer.
-use Prim.Native.Nat.{ℕ, _≤_, _<_}
+use Prim.Native.Nat.{ℕ, _+_, _-_, _≤_, _<_}
 use mathlib.Core.Path.{_≡_}
 use mathlib.Core.List.{List, [], _++_}
-use lib.ListN.{length, take}
+use lib.ListN.{length, take, drop}
 use Rattle.model.specs.declared.State.{State as StoredState}
 use Rattle.model.specs.Ascii.{ascii}
+use Rattle.model.specs.Limits.{bufferLimit}
+use Rattle.model.specs.Memory.{State}
 use Rattle.model.specs.Reply.{decimal}
 use Rattle.model.specs.Machine.{startFactory}
 use Rattle.model.specs.Stored.{stateOf}
 use Rattle.engine.specs.Fine.{Fine}
 use Rattle.reply.specs.Lines.{Replied}
+use Rattle.lines.specs.Before.{before}
 use Rattle.session.specs.Feed.{fed, ended, said, outcome, enough, holding, Held}
 use Rattle.session.specs.declared.feed.Session.{Session}
 use Rattle.session.specs.declared.feed.Fed.{Fed as StoredFed}
-use Rattle.session.specs.declared.feed.Answer.{Answer}
+use Rattle.session.specs.declared.run.Ran.{Ran}
 
 -- what a session holds
 abbrev pub heldOf : Session → Held
@@ -29,12 +32,31 @@ pub record Begins (s : Session) : Type 0 where
 abbrev pub refusalText : ℕ → List ℕ
 refusalText n = ascii "E " ++ (decimal n ++ ascii "\n")
 
--- one line was answered
-pub record Answers (s : StoredState) (line before after : List ℕ) (r : Answer) : Type 0 where
-  pub puts : Replied (said (stateOf s) line) before after (r .written)
-  pub room : r .written ≤ length before
-  pub state : stateOf (r .state) ≡ outcome (stateOf s) line .state
-  pub fine : Fine (r .state)
+-- so many bytes of answer stand in the buffer: those of a reply as they were, or those of a refusal
+pub record Says (number count : ℕ) (before after : List ℕ) (n : ℕ) : Type 0 where
+  pub taken : number ≡ 0 → (n ≡ count) × (after ≡ before)
+  pub refused : (number ≡ 0 → ⊥) → Replied (refusalText number) before after n
+
+-- one line was answered: the next state, and so many bytes
+pub record Answers (s : StoredState) (line before after : List ℕ) (next : StoredState) (n : ℕ) : Type 0 where
+  pub puts : Replied (said (stateOf s) line) before after n
+  pub room : n ≤ length before
+  pub state : stateOf next ≡ outcome (stateOf s) line .state
+  pub fine : Fine next
+
+-- the lines of a block up to a place were answered: the state there, and so many bytes
+pub record Run (st₀ : State) (block out₀ out : List ℕ) (s : StoredState) (at w : ℕ) : Type 0 where
+  pub within : at ≤ length block
+  pub fine : Fine s
+  pub held : fed st₀ [] (take at block) .held ≡ holding (stateOf s) []
+  pub puts : Replied (fed st₀ [] (take at block) .output) out₀ out w
+  pub room : w ≤ length out₀
+  pub long : length out ≡ length out₀
+
+-- a run over a block: where another line ends, it stopped for want of room
+pub record Runs (s : StoredState) (block out₀ out : List ℕ) (r : Ran) : Type 0 where
+  pub run : Run (stateOf s) block out₀ out (r .state) (r .used) (r .written)
+  pub stops : r .used + before (drop (r .used) block) < length block → length out - r .written < bufferLimit
 
 -- a block was fed, as far as it was used
 pub record Feeds (s : StoredState) (line block before after : List ℕ) (r : StoredFed) : Type 0 where

@@ -1,21 +1,19 @@
 // A block of input, fed to the machine line by line.
 use crate::cut::Kept;
 use crate::cut::keep;
+use crate::run::run_lines;
+use crate::run::say;
 use engine::line::obey;
 use lines::line_end;
 use model::State;
-use print::put_byte;
-use print::put_decimal;
-use print::put_text;
 ghost use mathlib.Core.Path.{_≡_};
 ghost use mathlib.Core.List.{[]};
 ghost use Prim.Native.Nat.{_≤_};
 ghost use lib.ListN.{length, take};
 ghost use Rattle.model.specs.Limits.{bufferLimit};
 ghost use Rattle.engine.specs.Fine.{Fine};
-ghost use Rattle.reply.specs.Lines.{Replied};
 ghost use Rattle.session.specs.Feed.{enough};
-ghost use Rattle.session.specs.Blocks.{refusalText, Begins, Answers, Feeds, Ends};
+ghost use Rattle.session.specs.Blocks.{Begins, Answers, Feeds, Ends};
 
 // Between two blocks: the state, and the bytes of a line that no block has ended yet.
 pub struct Session {
@@ -36,8 +34,6 @@ pub struct Answer {
     pub written: usize,
 }
 
-const ROOM: usize = 4096;
-
 fn nothing_held() -> Kept
     ensures { λ r. ⌜ r .count ≡ 0 ⌝ }
 {
@@ -56,59 +52,37 @@ pub fn begin() -> Session
     Session { state, held }
 }
 
-// E and the number of a refusal.
-fn put_refusal(number: u8, out: &mut [u8]) -> usize
-    requires { ⌜ bufferLimit ≤ length (now out) ⌝ }
-    ensures { λ r. ⌜ Replied (refusalText number) (now (out .entry)) (now (out .exit)) r ⌝ }
-{
-    let a = put_text(out, 0, b"E ");
-    let b = put_decimal(out, a, number as u64);
-    put_byte(out, b, b'\n')
-}
-
 // The reply as it is, or E and the number.
 fn answer_line(s: State, line: &[u8], out: &mut [u8]) -> Answer
     requires { ⌜ Fine s ⌝ }
     requires { ⌜ bufferLimit ≤ length (now out) ⌝ }
-    ensures { λ r. ⌜ Answers s (now (line .entry)) (now (out .entry)) (now (out .exit)) r ⌝ }
+    ensures { λ r. ⌜ Answers s (now (line .entry)) (now (out .entry)) (now (out .exit)) (r .state) (r .written) ⌝ }
 {
     let r = obey(s, line, out);
-    let number = r.number;
     let state = r.state;
-    if number == 0 {
-        return Answer {
-            state,
-            written: r.length,
-        };
-    }
-    let written = put_refusal(number, out);
+    let written = say(r.number, r.length, out);
     Answer { state, written }
 }
 
-// Whole lines from the start of a block on, while there is room for an answer.
+// Whole lines from the start of a block on, while there is room for answers. What is left without an LF is held.
 fn whole_lines(s: State, block: &[u8], out: &mut [u8]) -> Fed
     requires { ⌜ Fine s ⌝ }
     requires { ⌜ bufferLimit ≤ length (now out) ⌝ }
     ensures { λ r. ⌜ Feeds s [] (now (block .entry)) (now (out .entry)) (now (out .exit)) r ⌝ }
 {
-    let mut state = s;
-    let mut at = 0;
-    let mut written = 0;
-    while ROOM <= out.len() - written {
-        let end = line_end(block, at);
-        if end == block.len() {
-            let held = keep(nothing_held(), &block[at..]);
-            let session = Session { state, held };
-            return Fed {
-                session,
-                used: end,
-                written,
-            };
-        }
-        let a = answer_line(state, &block[at..end], &mut out[written..]);
-        state = a.state;
-        written += a.written;
-        at = end + 1;
+    let r = run_lines(s, block, out);
+    let state = r.state;
+    let at = r.used;
+    let written = r.written;
+    let end = line_end(block, at);
+    if end == block.len() {
+        let held = keep(nothing_held(), &block[at..]);
+        let session = Session { state, held };
+        return Fed {
+            session,
+            used: end,
+            written,
+        };
     }
     let held = nothing_held();
     let session = Session { state, held };

@@ -2,14 +2,14 @@
 use Prim.Native.Nat.{ℕ, suc, _+_, _-_, _<_, _≤_}
 use mathlib.Core.Path.{_≡_, refl, sym, _∙_}
 use mathlib.Core.List.{List, [], _∷_, _++_}
-use mathlib.Core.Bool.{Bool, true, false, _&&_}
+use mathlib.Core.Bool.{true, false, _&&_}
 use mathlib.Core.Logic.{⊎-elim}
 use native.Mathlib.Omega.{arith}
 use native.Mathlib.Numerals.{add-one}
 use borrow.Author.Tests.{le-leb, lt-leb, leb-true}
 use lib.Dec.{leb}
-use lib.ListN.{length, take, drop, getD, set, replicate, drop-of-length-le}
-use lib.Seq.{drop-cons, take-suc, take-at, set-at, length-take-le, append-snoc}
+use lib.ListN.{length, take, drop, getD, set, replicate}
+use lib.Seq.{take-suc, take-at, set-at, length-take-le, append-snoc}
 use Rattle.model.specs.Limits.{nameLimit}
 use Rattle.model.specs.Lists.{all}
 use Rattle.model.specs.Stored.{bytesOf}
@@ -17,7 +17,7 @@ use Rattle.model.specs.Words.{legalName, capital, nameByte}
 use Rattle.model.proofs.Basics.{and-split, either}
 use Rattle.text.specs.declared.names.NameRead.{NameRead}
 use Rattle.text.specs.Names.{nameRead, noName, stored}
-use Rattle.text.proofs.Lists.{and-false}
+use Rattle.text.proofs.Lists.{and-false, and-true, all-next}
 
 -- ---- the word that a loop reads
 
@@ -36,29 +36,17 @@ unfolding legalName
 legal-first [] h = refl
 legal-first (b ∷ bs) h = rw h
 
--- a capital first, and not too long: what is left are the bytes
-and-true : (a : Bool) → a && true ≡ a
-and-true true = refl
-and-true false = refl
+-- a capital first, and not too long: what is left are the other bytes
+pub legal-rest : (w : List ℕ) → 0 < length w → length w ≤ nameLimit → capital (getD w 0 0) ≡ true → legalName w ≡ all nameByte (drop 1 w)
+unfolding legalName
+legal-rest [] h g e = absurd (omega arith)
+legal-rest (b ∷ bs) h g e = rw (e, le-leb (suc (length bs)) nameLimit g) (and-true (all nameByte bs))
 
+-- or all of them: a capital is such a byte
 pub legal-bytes : (w : List ℕ) → 0 < length w → length w ≤ nameLimit → capital (getD w 0 0) ≡ true → legalName w ≡ all nameByte w
-unfolding legalName all
-legal-bytes [] h g e = absurd (omega arith)
-legal-bytes (b ∷ bs) h g e = rw (e, le-leb (suc (length bs)) nameLimit g) (and-true (all nameByte bs))
+legal-bytes w h g e = legal-rest w h g e ∙ sym (all-next nameByte w 0 0 h (rw e))
 
 module _ (w : List ℕ) (i : ℕ) where
-  pub bytes-next : i < length w → nameByte (getD w i 0) ≡ true → all nameByte (drop i w) ≡ all nameByte (drop (i + 1) w)
-  unfolding all
-  bytes-next h e = rw (add-one, drop-cons w i 0, e)
-
-  pub bytes-stop : i < length w → nameByte (getD w i 0) ≡ false → all nameByte (drop i w) ≡ false
-  unfolding all
-  bytes-stop h e = rw (drop-cons w i 0, e)
-
-  pub bytes-end : length w ≤ i → all nameByte (drop i w) ≡ true
-  unfolding all
-  bytes-end h = rw (drop-of-length-le w h)
-
   -- one more byte is stored
   pub stored-next : (b : ℕ) → i < length w → i < nameLimit → getD w i 0 ≡ b →
       set (take i w ++ replicate (nameLimit - i) 0) i b ≡ take (i + 1) w ++ replicate (nameLimit - (i + 1)) 0

@@ -1,13 +1,10 @@
-// Names: read from a word, and told from the reserved ones.
+// Names: read from a word, and compared.
 use super::words::Word;
 use super::words::between;
 use super::words::upper;
 use model::Name;
 ghost use mathlib.Core.Path.{_≡_};
-ghost use Prim.Native.Nat.{_≤_};
 ghost use Rattle.model.specs.Lists.{same};
-ghost use Rattle.model.specs.Limits.{nameLimit};
-ghost use Rattle.model.specs.Stored.{bytesOf};
 ghost use Rattle.model.specs.Words as model;
 ghost use Rattle.text.specs.Cursor.{wordOf, Within};
 ghost use Rattle.text.specs.Names.{nameRead, noName};
@@ -32,16 +29,11 @@ fn no_name() -> NameRead
     }
 }
 
-fn name_byte(b: u8) -> bool
+// Capitals, digits and underscores.
+pub fn name_byte(b: u8) -> bool
     ensures { λ r. ⌜ r ≡ model.nameByte b ⌝ }
 {
-    if between(65, 90, b) {
-        return true;
-    }
-    if between(48, 57, b) {
-        return true;
-    }
-    b == 95
+    between(65, 90, b) | between(48, 57, b) | (b == 95)
 }
 
 pub fn read_name(line: &[u8], w: Word) -> NameRead
@@ -79,6 +71,7 @@ pub fn read_name(line: &[u8], w: Word) -> NameRead
     }
 }
 
+// From the last byte on: names that differ differ mostly at their end.
 pub fn same_bytes(a: &[u8], b: &[u8]) -> bool
     ensures { λ r. ⌜ r ≡ same (now (a .entry)) (now (b .entry)) ⌝ }
 {
@@ -86,39 +79,12 @@ pub fn same_bytes(a: &[u8], b: &[u8]) -> bool
     if n != b.len() {
         return false;
     }
-    let mut i = 0;
-    while i < n {
-        if a[i] != b[i] {
+    let mut left = n;
+    while 0 < left {
+        left -= 1;
+        if a[left] != b[left] {
             return false;
         }
-        i += 1;
     }
     true
-}
-
-// Whether a name is this text.
-pub fn is_name(n: Name, text: &[u8]) -> bool
-    requires { ⌜ n .len ≤ nameLimit ⌝ }
-    ensures { λ r. ⌜ r ≡ same (bytesOf n) (now (text .entry)) ⌝ }
-{
-    let bytes = n.bytes;
-    let len = n.len as usize;
-    same_bytes(&bytes[..len], text)
-}
-
-// Whether no user system may have the name.
-pub fn reserved_name(n: Name) -> bool
-    requires { ⌜ n .len ≤ nameLimit ⌝ }
-    ensures { λ r. ⌜ r ≡ model.reserved (bytesOf n) ⌝ }
-{
-    if is_name(n, b"ZERO") {
-        return true;
-    }
-    if is_name(n, b"PI_BASE") {
-        return true;
-    }
-    if is_name(n, b"PI_LEVELLING") {
-        return true;
-    }
-    is_name(n, b"HEXAPOD")
 }

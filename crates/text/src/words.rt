@@ -13,7 +13,7 @@ pub struct Word {
     pub end: usize,
 }
 
-pub(crate) fn between(low: u8, high: u8, b: u8) -> bool
+pub fn between(low: u8, high: u8, b: u8) -> bool
     ensures { λ r. ⌜ r ≡ lists.between low high b ⌝ }
 {
     low <= b && b <= high

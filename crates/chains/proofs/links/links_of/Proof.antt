@@ -1,5 +1,5 @@
-use Prim.Native.Nat.{ℕ, _-_, min, _≤_}
-use mathlib.Core.Path.{_≡_, refl, sym, ap, _∙_}
+use Prim.Native.Nat.{ℕ, _-_, _≤_}
+use mathlib.Core.Path.{_≡_, refl, ap, _∙_}
 use mathlib.Core.List.{List, map}
 use native.Mathlib.Omega.{arith}
 use borrow.Author.Needs.{needs}
@@ -8,16 +8,16 @@ use Rattle.model.specs.declared.System.{System as StoredSystem}
 use Rattle.model.specs.Stored.{systemOf}
 use Rattle.chains.specs.Flat.{predsOf}
 use Rattle.model.specs.Limits.{maxSystems}
-use Rattle.chains.proofs.Copies.{length-mapped, take-min, predsBefore, one-more}
+use Rattle.chains.proofs.Copies.{length-mapped, take-min, predsBefore, one-more, fewer-laid}
 use Rattle.chains.proofs.links.links_of.Statement.{statement}
 use Rattle.chains.proofs.links.links_of.Tie as tie
 
--- the places of the systems passed are copied
+-- the predecessors' places of the systems passed are copied
 abbrev Inv-loop : tie.InvT-loop
-Inv-loop m count preds₀ i₀ preds i = (i ≤ count) × (length preds ≡ maxSystems) × (take i preds ≡ predsBefore (m .systems) i)
+Inv-loop m count preds₀ i₀ preds i = (i ≤ maxSystems) × (length preds ≡ maxSystems) × (take i preds ≡ predsBefore (m .systems) i)
 
 abbrev μ-loop : tie.MeasureT-loop
-μ-loop m count preds₀ i₀ preds i = count - i
+μ-loop m count preds₀ i₀ preds i = maxSystems - i
 
 held-requires : tie.Need-held-requires Inv-loop μ-loop
 held-requires c κs = tt
@@ -52,12 +52,12 @@ returns c =
     let w = c .before .loop in
     let m = c .before .before .before .args .t1 in
     let h : length (m .systems) ≡ 16 = search (length-mapped, needs) in
-    let e : w .i ≡ min (m .count) maxSystems = omega (arith, c .before .before .held .ensures) in
+    let k = c .before .before .held .ensures in
     record {
       links =
-          ap (λ (n : ℕ). take n (w .preds)) (c .before .before .held .ensures ∙ sym e) ∙ w .inv .2 ∙
-          ap (λ (l : List StoredSystem). predsOf (map systemOf l)) (ap (λ (n : ℕ). take n (m .systems)) e ∙ take-min (m .count) maxSystems (m .systems) h);
-      few = omega (arith, c .before .before .held .ensures);
+          fewer-laid (m .systems) (w .preds) (c .before .before .held .result) (w .i) (omega (arith, k)) (w .inv .2) ∙
+          ap (λ (l : List StoredSystem). predsOf (map systemOf l)) (ap (λ (n : ℕ). take n (m .systems)) k ∙ take-min (m .count) maxSystems (m .systems) h);
+      few = omega (arith, k);
     }
 
 pub links-of-spec : {M : Type 1} → statement M

@@ -1,17 +1,12 @@
-use mathlib.Core.Path.{_≡_, sym, _∙_}
+use mathlib.Core.Path.{sym, _∙_}
 use mathlib.Core.List.{[], _∷_}
 use borrow.Author.Needs.{needs}
-use lib.ListN.{length}
 use Rattle.model.specs.Refusals.{first, changeLadder}
-use Rattle.model.specs.Stored.{memoryOf}
-use Rattle.chains.proofs.Copies.{length-mapped}
+use Rattle.model.specs.Stored.{systemsOf, memoryOf}
 use Rattle.commands.proofs.Asked.{other-is, used-is, full-is}
 use Rattle.commands.specs.Conditions.{lockedAt}
 use Rattle.commands.proofs.judge.judge_define.Statement.{statement}
 use Rattle.commands.proofs.judge.judge_define.Tie as tie
-
-long : (c : tie.Start) → length (c .args .m .systems) ≡ 16
-long c = search (length-mapped, needs)
 
 group-of-requires : tie.Need-group-of-requires
 group-of-requires c κs = search needs
@@ -34,14 +29,15 @@ first-number-requires c κs = search needs
 returns : tie.Need-returns
 unfolding changeLadder first
 returns c =
-    λ name t u tn st e.
-    let a = c .before .before .before .before .before .before .args in
-    let m = memoryOf (a .m) in
+    λ m x y o u s st e.
+    let a = c .before .before .before .before .before .before .before .before .before .args in
+    let n = a .k .first in
+    let t = s .first in
     let lock = c .before .before .before .before .locked .ensures ∙ (λ i. lockedAt (sym e i) (c .before .before .before .before .before .group-of .ensures i)) in
-    let other = c .before .before .before .other-type .ensures ∙ other-is m name (a .n) tn (a .kind) in
-    let used = c .before .before .used-in .ensures ∙ used-is m name (a .n) tn in
-    let full = c .before .no-room .ensures ∙ full-is (a .m) name (a .n) (long (c .before .before .before .before .before .before)) tn in
-    c .first-number .ensures ∙ (λ i. first ((8, tn .reserved-is i) ∷ (9, lock i) ∷ (10, other i) ∷ (11, used i) ∷ (13, full i) ∷ []))
+    let other = c .before .before .before .other-type .ensures ∙ other-is (memoryOf m) x n t (a .kind) in
+    let used = c .before .before .used-in .ensures (systemsOf m) (s .links) ∙ used-is (memoryOf m) x n t (a .k .enabled) (s .enabled) in
+    let full = c .before .no-room .ensures ∙ full-is (memoryOf m) x n t (a .k .links .count) (s .counted) in
+    c .first-number .ensures ∙ (λ i. first ((8, t .reserved-is i) ∷ (9, lock i) ∷ (10, other i) ∷ (11, used i) ∷ (13, full i) ∷ []))
 
 pub judge-define-spec : {M : Type 1} → statement M
 judge-define-spec =

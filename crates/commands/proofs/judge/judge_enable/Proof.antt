@@ -16,10 +16,11 @@ first-number-requires c κs = search needs
 returns : tie.Need-returns
 unfolding changeLadder first
 returns c =
-    λ x tx st e.
-    let a = c .before .before .args in
-    let lock = c .before .locked .ensures ∙ locked-is (memoryOf (a .m)) x (a .a) tx st (a .level) e in
-    c .first-number .ensures ∙ (λ i. first ((7, tx .absent-is i) ∷ (9, lock i) ∷ []))
+    λ m x y s st e.
+    let a = c .before .before .before .args in
+    let t = s .first in
+    let lock = c .before .locked .ensures ∙ locked-is (memoryOf m) x (a .k .first) t st (a .level) e in
+    c .first-number .ensures ∙ (λ i. first ((7, t .absent-is i) ∷ (9, lock i) ∷ []))
 
 pub judge-enable-spec : {M : Type 1} → statement M
 judge-enable-spec = tie.close (tie.spec locked-requires first-number-requires returns)

@@ -3,7 +3,7 @@ use mathlib.Core.Bool.{_||_}
 use mathlib.Core.List.{[], _∷_}
 use borrow.Author.Needs.{needs}
 use Rattle.model.specs.Refusals.{first, changeLadder}
-use Rattle.model.specs.Stored.{memoryOf}
+use Rattle.model.specs.Stored.{systemsOf, memoryOf}
 use Rattle.commands.proofs.Asked.{locked-is, wrong-is, used-is, before-is}
 use Rattle.commands.proofs.judge.judge_link.Statement.{statement}
 use Rattle.commands.proofs.judge.judge_link.Tie as tie
@@ -23,16 +23,18 @@ first-number-requires c κs = search needs
 returns : tie.Need-returns
 unfolding changeLadder first
 returns c =
-    λ x y tx ty same st e.
-    let a = c .before .before .before .before .before .before .args in
-    let m = memoryOf (a .m) in
+    λ m x y s same st e.
+    let a = c .before .before .before .before .before .before .before .before .before .before .args in
+    let n = a .k .first in
+    let t = s .first in
+    let u = s .second in
     let ties = c .before .before .before .before .before .ties-of .ensures in
-    let lock = c .before .before .locked .ensures ∙ locked-is m x (a .a) tx st (a .level) e in
-    let wrong = c .before .wrong-pred .ensures ∙ wrong-is m x (a .a) tx y (a .b) ty in
-    let used = ties .0 ∙ used-is m x (a .a) tx in
-    let ring = ties .1 ∙ before-is m x (a .a) tx y (a .b) ty (a .equal) same in
+    let lock = c .before .before .locked .ensures ∙ locked-is (memoryOf m) x n t st (a .level) e in
+    let wrong = c .before .wrong-pred .ensures ∙ wrong-is (memoryOf m) x n t y (a .k .second) u in
+    let used = ties .0 (systemsOf m) (s .links) ∙ used-is (memoryOf m) x n t (a .k .enabled) (s .enabled) in
+    let ring = ties .1 (systemsOf m) (s .links) ∙ before-is (memoryOf m) x n t y (a .k .second) u (a .equal) same in
     c .first-number .ensures ∙
-    (λ i. first ((7, tx .absent-is i || ty .absent-is i) ∷ (8, tx .reserved-is i) ∷ (9, lock i) ∷ (10, wrong i) ∷ (11, used i) ∷ (12, ring i) ∷ []))
+    (λ i. first ((7, t .absent-is i || u .absent-is i) ∷ (8, t .reserved-is i) ∷ (9, lock i) ∷ (10, wrong i) ∷ (11, used i) ∷ (12, ring i) ∷ []))
 
 pub judge-link-spec : {M : Type 1} → statement M
 judge-link-spec =

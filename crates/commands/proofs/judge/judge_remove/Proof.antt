@@ -2,7 +2,7 @@ use mathlib.Core.Path.{_∙_}
 use mathlib.Core.List.{[], _∷_}
 use borrow.Author.Needs.{needs}
 use Rattle.model.specs.Refusals.{first, changeLadder}
-use Rattle.model.specs.Stored.{memoryOf}
+use Rattle.model.specs.Stored.{systemsOf, memoryOf}
 use Rattle.commands.proofs.Asked.{locked-is, used-is}
 use Rattle.commands.proofs.judge.judge_remove.Statement.{statement}
 use Rattle.commands.proofs.judge.judge_remove.Tie as tie
@@ -19,12 +19,12 @@ first-number-requires c κs = search needs
 returns : tie.Need-returns
 unfolding changeLadder first
 returns c =
-    λ x tx st e.
-    let a = c .before .before .before .args in
-    let m = memoryOf (a .m) in
-    let lock = c .before .before .locked .ensures ∙ locked-is m x (a .a) tx st (a .level) e in
-    let used = c .before .used-in .ensures ∙ used-is m x (a .a) tx in
-    c .first-number .ensures ∙ (λ i. first ((7, tx .absent-is i) ∷ (8, tx .reserved-is i) ∷ (9, lock i) ∷ (11, used i) ∷ []))
+    λ m x y s st e.
+    let a = c .before .before .before .before .before .before .args in
+    let t = s .first in
+    let lock = c .before .before .locked .ensures ∙ locked-is (memoryOf m) x (a .k .first) t st (a .level) e in
+    let used = c .before .used-in .ensures (systemsOf m) (s .links) ∙ used-is (memoryOf m) x (a .k .first) t (a .k .enabled) (s .enabled) in
+    c .first-number .ensures ∙ (λ i. first ((7, t .absent-is i) ∷ (8, t .reserved-is i) ∷ (9, lock i) ∷ (11, used i) ∷ []))
 
 pub judge-remove-spec : {M : Type 1} → statement M
 judge-remove-spec =

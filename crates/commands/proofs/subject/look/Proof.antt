@@ -1,56 +1,46 @@
-use Prim.Native.Nat.{ℕ}
-use mathlib.Core.Path.{ap, _∙_}
-use mathlib.Core.Bool.{not}
-use mathlib.Core.Option.{Option}
+use mathlib.Core.Path.{_≡_, refl, sym, ap, _∙_}
+use native.Mathlib.Omega.{arith}
 use borrow.Author.Needs.{needs}
-use Rattle.model.specs.Lists.{there?}
-use Rattle.model.specs.Memory.{System, Ref, refOr, systemAt}
-use Rattle.model.specs.Stored.{memoryOf}
+use lib.ListN.{length}
+use Rattle.model.specs.Memory.{System, systemAt}
+use Rattle.model.specs.Stored.{systemsOf, memoryOf}
+use Rattle.chains.proofs.Copies.{length-mapped}
+use Rattle.memory.proofs.Laws.{length-systems}
+use Rattle.memory.proofs.Shape.{shaped-count}
 use Rattle.commands.proofs.subject.look.Statement.{statement}
 use Rattle.commands.proofs.subject.look.Tie as tie
 
-find-requires : tie.Need-find-requires
-find-requires c κs = search needs
+long : (c : tie.Start) → length (c .args .m .systems) ≡ 16
+long c = search (length-mapped, needs)
 
-place-of-requires : tie.Need-place-of-requires
-place-of-requires c κs = search needs
+places-named-requires : tie.Need-places-named-requires
+places-named-requires c κs = search needs
 
-system-at-requires : tie.Need-system-at-requires
-system-at-requires c κs = search needs
+about-requires : tie.Need-about-requires
+about-requires c κs = search needs
 
-group-found-requires : tie.Need-group-found-requires
-group-found-requires c κs = search needs
-
-is-absent-requires : tie.Need-is-absent-requires
-is-absent-requires c κs = search needs
-
-reserved-name-requires : tie.Need-reserved-name-requires
-reserved-name-requires c κs = search needs
+about-requires-2 : tie.Need-about-requires-2
+about-requires-2 c κs = search needs
 
 returns : tie.Need-returns
 returns c =
-    let m = memoryOf (c .before .before .before .before .before .before .args .m) in
-    let l = m .systems in
-    let found = c .before .before .before .before .before .find .ensures in
-    let place = c .before .before .before .before .place-of .ensures in
-    let kind = ap (λ (s : System). s .kind) (c .before .before .before .system-at .ensures .0) in
+    let start = c .before .before .before .before .before .before .before in
+    let m = start .args .m in
+    let l = systemsOf m in
+    let places = c .before .before .before .before .before .before .places-named .ensures in
+    let one = c .before .before .before .before .about .ensures (memoryOf m) (places .0 .place-is) (ap (λ (s : System). s .kind) (places .0 .system-is)) in
     record {
-      found-is = found .0;
-      absent-is = c .before .is-absent .ensures l ∙ ap (λ (o : Option Ref). not (there? o)) (found .0);
-      reserved-is = c .reserved-name .ensures;
-      place-is = place ∙ found .1;
-      group-is = c .before .before .group-found .ensures l (kind ∙ ap (λ (k : ℕ). systemAt l k .kind) place) ∙ ap (λ (o : Option Ref). refOr o .group) (found .0);
-      kind-is = kind ∙ ap (λ (k : ℕ). systemAt l k .kind) (place ∙ found .1);
+      first = one;
+      second = c .before .before .about2 .ensures (memoryOf m) (places .1 .0 .place-is) (ap (λ (s : System). s .kind) (places .1 .0 .system-is));
+      source = places .0 .system-is ∙ ap (systemAt l) (places .0 .place-is ∙ sym (one .place-is));
+      named = places .0 .shaped (start .pre);
+      links = places .1 .1 .0;
+      counted = places .1 .1 .1;
+      stored = sym (length-systems m (m .count) (long start) (omega (arith, shaped-count m (start .pre))));
+      enabled = refl;
     }
 
 pub look-spec : {M : Type 1} → statement M
 look-spec =
     tie.close
-    (tie.spec
-    find-requires
-    place-of-requires
-    system-at-requires
-    group-found-requires
-    is-absent-requires
-    reserved-name-requires
-    returns)
+    (tie.spec places-named-requires about-requires about-requires-2 returns)

@@ -1,29 +1,16 @@
-use mathlib.Core.Path.{_≡_, refl, sym, ap, _∙_}
-use mathlib.Core.Option.{Option}
+use mathlib.Core.Path.{sym, _∙_}
 use borrow.Author.Needs.{needs}
-use Rattle.model.specs.declared.Enabled.{Enabled}
-use Rattle.model.specs.Memory.{Ref, refOr}
-use Rattle.model.specs.Request.{Change, enable}
-use Rattle.model.specs.Refusals.{first, changeLadder}
+use Rattle.model.specs.Memory.{refOr}
+use Rattle.model.specs.Request.{enable}
 use Rattle.model.specs.Effects.{withVolatile, enabling, changed}
-use Rattle.model.specs.Stored.{bytesOf, memoryOf, stateOf, memoryShaped}
-use Rattle.commands.specs.Given.{accepts}
-use Rattle.commands.proofs.Carried.{given-refused, given-accepted, volatile-shaped}
+use Rattle.model.specs.Stored.{systemsOf, memoryOf, stateOf}
+use Rattle.memory.specs.Put.{holding}
+use Rattle.commands.specs.declared.changed.Deed.the-variants.{Enable}
+use Rattle.commands.specs.Done.{done, Fits}
+use Rattle.commands.proofs.Asked.{found-kind}
+use Rattle.commands.proofs.Carried.{decides-refused, decides-accepted}
 use Rattle.commands.proofs.systems.enable.Statement.{statement}
 use Rattle.commands.proofs.systems.enable.Tie as tie
-
-abbrev asked : tie.Start → Change
-asked c = enable (bytesOf (c .args .a))
-
-abbrev start : tie.After-judge-enable → tie.Start
-start c = c .before .before .before
-
--- the number is the ladder's
-number : (c : tie.After-judge-enable) → c .judge-enable .result ≡ first (changeLadder (stateOf (start c .args .s)) (memoryOf (start c .args .s .volatile)) (asked (start c)))
-number c = let s = start c .args in c .judge-enable .ensures (bytesOf (s .a)) (c .before .look .ensures) (stateOf (s .s)) refl
-
-look-requires : tie.Need-look-requires
-look-requires c κs = search needs
 
 judge-enable-requires : tie.Need-judge-enable-requires
 judge-enable-requires c κs = search needs
@@ -34,7 +21,8 @@ refused-requires c κs = search needs
 returns : tie.Need-returns
 returns c =
     let j = c .before .before in
-    (c .refused .ensures .0 ∙ sym (given-refused (stateOf (start j .args .s)) (asked (start j)) (j .judge-enable .result) (number j) (c .before .if1 .taken)), c .refused .ensures .1)
+    λ s x y level seen.
+    decides-refused s (enable x) (j .judge-enable .result) (j .judge-enable .ensures (s .volatile) x y seen (stateOf s) level) (c .refused .result) (c .before .if1 .taken) (c .refused .ensures)
 
 enabling-requires : tie.Need-enabling-requires
 enabling-requires c κs = search needs
@@ -43,24 +31,24 @@ accepted-requires : tie.Need-accepted-requires
 accepted-requires c κs = search needs
 
 returns-2 : tie.Need-returns-2
-unfolding changed memoryShaped
+unfolding changed done Fits
 returns-2 c =
-    let t = c .before .before in
+    let t = c .before .before .before .before in
     let j = t .before in
-    let a = start j .args in
-    let st = stateOf (a .s) in
-    let m = memoryOf (a .s .volatile) in
-    let enabled = c .before .enabling .ensures ∙ ap (λ (o : Option Ref). enabling (a .s .level) m (refOr o)) (j .before .look .ensures .found-is) in (
-      c .accepted .ensures .0 ∙ ap (λ (e : Enabled). accepts (withVolatile st (record { systems = m .systems; enabled = e }))) enabled
-          ∙ sym (given-accepted st (asked (start j)) (j .judge-enable .result) (number j) (t .if1 .left)),
-      λ h. c .accepted .ensures .1 h (volatile-shaped (a .s) h),
-    )
+    let a = j .before .args in
+    λ s x y level seen.
+    let number = j .judge-enable .ensures (s .volatile) x y seen (stateOf s) level in
+    let l = systemsOf (s .volatile) in
+    let kind = found-kind (memoryOf (s .volatile)) x (a .k .first) (seen .first) in
+    let enabled = c .before .enabling .ensures l kind ∙ (λ i. enabling (sym level i) (holding l (seen .enabled i)) (refOr (seen .first .found-is i))) in
+    decides-accepted s (enable x) (j .judge-enable .result) number (c .accepted .result) (Enable (c .before .enabling .result)) (t .if1 .left) (c .accepted .ensures)
+    tt
+    (λ i. withVolatile (stateOf s) (holding l (enabled i)))
 
 pub enable-spec : {M : Type 1} → statement M
 enable-spec =
     tie.close
     (tie.spec
-    look-requires
     judge-enable-requires
     refused-requires
     returns

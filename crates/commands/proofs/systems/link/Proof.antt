@@ -1,46 +1,19 @@
-use mathlib.Core.Path.{_≡_, refl, sym, ap, _∙_}
-use mathlib.Core.Bool.{true}
+use mathlib.Core.Path.{sym, ap, _∙_}
+use native.Mathlib.Omega.{arith}
 use borrow.Author.Needs.{needs}
-use lib.ListN.{length}
-use Rattle.model.specs.Memory.{Memory, isUser, systemAt}
+use Rattle.model.specs.Memory.{systemAt}
 use Rattle.model.specs.Request.{Change, link}
-use Rattle.model.specs.Refusals.{first, changeLadder}
 use Rattle.model.specs.Effects.{withVolatile, withPred, changed}
 use Rattle.model.specs.Stored.{bytesOf, memoryOf, stateOf}
 use Rattle.model.proofs.Named.{user-place}
-use Rattle.chains.proofs.Copies.{length-mapped}
 use Rattle.memory.specs.Put.{putAt}
 use Rattle.memory.proofs.ByName.{linked-by-place}
-use Rattle.commands.specs.Given.{accepts}
-use Rattle.commands.proofs.Carried.{given-refused, given-accepted, link-user, place-few, volatile-shaped}
+use Rattle.commands.proofs.Carried.{decides-refused, decides-put, link-user, place-few}
 use Rattle.commands.proofs.systems.link.Statement.{statement}
 use Rattle.commands.proofs.systems.link.Tie as tie
 
-long : (c : tie.Start) → length (c .args .s .volatile .systems) ≡ 16
-long c = search (length-mapped, needs)
-
 abbrev asked : tie.Start → Change
 asked c = link (bytesOf (c .args .a)) (bytesOf (c .args .b))
-
-abbrev start : tie.After-judge-link → tie.Start
-start c = c .before .before .before .before .before
-
--- the number is the ladder's
-number : (c : tie.After-judge-link) → c .judge-link .result ≡ first (changeLadder (stateOf (start c .args .s)) (memoryOf (start c .args .s .volatile)) (asked (start c)))
-number c =
-    let s = start c .args in
-    let same = c .before .same-name .ensures in
-    c .judge-link .ensures (bytesOf (s .a)) (bytesOf (s .b)) (c .before .before .before .look .ensures) (c .before .before .look2 .ensures) same (stateOf (s .s)) refl
-
--- a is a user system
-user : (c : tie.Else1) → isUser (memoryOf (start (c .before) .args .s .volatile)) (bytesOf (start (c .before) .args .a)) ≡ true
-user c = let s = start (c .before) .args in link-user (stateOf (s .s)) (memoryOf (s .s .volatile)) (bytesOf (s .a)) (bytesOf (s .b)) (sym (number (c .before)) ∙ c .if1 .left)
-
-look-requires : tie.Need-look-requires
-look-requires c κs = search needs
-
-look-requires-2 : tie.Need-look-requires-2
-look-requires-2 c κs = search needs
 
 same-name-requires : tie.Need-same-name-requires
 same-name-requires c κs = search needs
@@ -54,42 +27,45 @@ refused-requires c κs = search needs
 returns : tie.Need-returns
 returns c =
     let j = c .before .before in
-    (c .refused .ensures .0 ∙ sym (given-refused (stateOf (start j .args .s)) (asked (start j)) (j .judge-link .result) (number j) (c .before .if1 .taken)), c .refused .ensures .1)
+    λ s level seen.
+    let number = j .judge-link .ensures (s .volatile) _ _ seen (j .before .same-name .ensures) (stateOf s) level in
+    decides-refused s (asked (j .before .before)) (j .judge-link .result) number (c .refused .result) (c .before .if1 .taken) (c .refused .ensures)
 
-link-at-requires : tie.Need-link-at-requires
-link-at-requires c κs =
-    let s = start (c .before) in
-    rw (c .before .before .before .before .look .ensures .place-is) (user-place (memoryOf (s .args .s .volatile)) (bytesOf (s .args .a)) (user c), place-few (s .args .s .volatile) (long s) (bytesOf (s .args .a)))
+relinked-requires : tie.Need-relinked-requires
+relinked-requires c κs = search needs
 
-accepted-requires : tie.Need-accepted-requires
-accepted-requires c κs = search needs
+putting-requires : tie.Need-putting-requires
+putting-requires c κs = search needs
 
 returns-2 : tie.Need-returns-2
 unfolding changed
 returns-2 c =
-    let t = c .before .before in
+    let t = c .before .before .before .before .before in
     let j = t .before in
-    let s = start j .args in
-    let st = stateOf (s .s) in
-    let m = memoryOf (s .s .volatile) in
-    let x = j .before .before .before .look .ensures .place-is in
-    let y = j .before .before .look2 .ensures .place-is in
-    let next = c .before .link-at .ensures .0 ∙ (λ i. putAt m (x i) (withPred (systemAt (m .systems) (x i)) (y i))) ∙ sym (linked-by-place m (bytesOf (s .a)) (bytesOf (s .b)) (user (c .before .before))) in (
-      c .accepted .ensures .0 ∙ ap (λ (n : Memory). accepts (withVolatile st n)) next
-          ∙ sym (given-accepted st (asked (start j)) (j .judge-link .result) (number j) (t .if1 .left)),
-      λ h. c .accepted .ensures .1 h (c .before .link-at .ensures .1 (volatile-shaped (s .s) h)),
-    )
+    let start = j .before .before in
+    let a = start .args in
+    let made = c .before .relinked .ensures in
+    λ s level seen.
+    let number = j .judge-link .ensures (s .volatile) _ _ seen (j .before .same-name .ensures) (stateOf s) level in
+    let m = memoryOf (s .volatile) in
+    let user = link-user (stateOf s) m (bytesOf (a .a)) (bytesOf (a .b)) (sym number ∙ t .if1 .left) in
+    let x = seen .first .place-is in
+    let source = seen .source ∙ ap (systemAt (m .systems)) x in
+    let linked = made .0 ∙ (λ i. withPred (source i) (seen .second .place-is i)) in
+    let next = (λ i. putAt m (x i) (linked i)) ∙ sym (linked-by-place m (bytesOf (a .a)) (bytesOf (a .b)) user) in
+    decides-put s (asked start) (j .judge-link .result) number (c .putting .result) (a .k .first .place) (c .before .relinked .result) (t .if1 .left) (c .putting .ensures)
+    (rw (made .1) (seen .named))
+    (rw x (place-few (s .volatile) _ _ _ seen (bytesOf (a .a)), λ z. absurd (omega (arith, z, user-place m (bytesOf (a .a)) user))))
+    (ap (withVolatile (stateOf s)) next)
 
 pub link-spec : {M : Type 1} → statement M
 link-spec =
     tie.close
     (tie.spec
-    look-requires
-    look-requires-2
     same-name-requires
     judge-link-requires
     refused-requires
     returns
-    link-at-requires
-    accepted-requires
+    relinked-requires
+    putting-requires
     returns-2)

@@ -1,16 +1,20 @@
 use mathlib.Core.Path.{refl}
+use borrow.Author.Needs.{needs}
+use Rattle.model.specs.Request.{save}
 use Rattle.model.specs.Refusals.{first, changeLadder}
 use Rattle.model.specs.Effects.{changed}
-use Rattle.model.specs.Stored.{shaped}
-use Rattle.model.proofs.Basics.{and-join}
-use Rattle.commands.specs.Given.{given, givenBy}
-use Rattle.commands.proofs.Carried.{volatile-shaped}
+use Rattle.commands.specs.declared.changed.Deed.the-variants.{Save}
+use Rattle.commands.specs.Done.{done, Fits}
+use Rattle.commands.proofs.Carried.{decides-accepted}
 use Rattle.commands.proofs.whole.save.Statement.{statement}
 use Rattle.commands.proofs.whole.save.Tie as tie
 
+accepted-requires : tie.Need-accepted-requires
+accepted-requires c κs = search needs
+
 returns : tie.Need-returns
-unfolding given givenBy changeLadder first changed shaped
-returns c = (refl, λ h. let v = volatile-shaped (c .before .args .s) h in and-join v v)
+unfolding changeLadder first changed done Fits
+returns c = λ s. decides-accepted s save 0 refl (c .accepted .result) Save refl (c .accepted .ensures) tt refl
 
 pub save-spec : {M : Type 1} → statement M
-save-spec = tie.close (tie.spec returns)
+save-spec = tie.close (tie.spec accepted-requires returns)

@@ -1,14 +1,20 @@
 use mathlib.Core.Path.{refl}
+use borrow.Author.Needs.{needs}
+use Rattle.model.specs.Request.{setLevel}
 use Rattle.model.specs.Refusals.{first, changeLadder}
 use Rattle.model.specs.Effects.{changed}
-use Rattle.model.specs.Stored.{shaped}
-use Rattle.commands.specs.Given.{given, givenBy}
+use Rattle.commands.specs.declared.changed.Deed.the-variants.{SetLevel}
+use Rattle.commands.specs.Done.{done, Fits}
+use Rattle.commands.proofs.Carried.{decides-accepted}
 use Rattle.commands.proofs.whole.set_level.Statement.{statement}
 use Rattle.commands.proofs.whole.set_level.Tie as tie
 
+accepted-requires : tie.Need-accepted-requires
+accepted-requires c κs = search needs
+
 returns : tie.Need-returns
-unfolding given givenBy changeLadder first changed shaped
-returns c = (refl, λ h. h)
+unfolding changeLadder first changed done Fits
+returns c = let n = c .before .args .n in λ s. decides-accepted s (setLevel n) 0 refl (c .accepted .result) (SetLevel n) refl (c .accepted .ensures) tt refl
 
 pub set-level-spec : {M : Type 1} → statement M
-set-level-spec = tie.close (tie.spec returns)
+set-level-spec = tie.close (tie.spec accepted-requires returns)

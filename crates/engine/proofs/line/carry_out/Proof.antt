@@ -1,13 +1,15 @@
 -- `carry_out`: each case of the request is the definition's.
-use mathlib.Core.Path.{_≡_, sym, ap, _∙_}
-use Rattle.model.specs.Stored.{ofOutcome}
+use mathlib.Core.Path.{refl}
 use Rattle.engine.proofs.Steps.{obeyed-unknown, obeyed-malformed, obeyed-beyond}
-use Rattle.engine.proofs.Listing.{change-answers}
+use Rattle.engine.proofs.Taking.{refusal-taken, change-taken}
+use Rattle.engine.proofs.OneLine.{named-within}
 use borrow.Author.Needs.{needs}
 use Rattle.engine.proofs.line.carry_out.Statement.{statement}
 use Rattle.engine.proofs.line.carry_out.Tie as tie
 use Rattle.engine.proofs.line.carry_out.Reads as reads
 use Rattle.engine.proofs.line.carry_out.Lts as lts
+use Rattle.commands.proofs.changed.refused.Reads as refused-reads
+use Rattle.commands.proofs.subject.look.Reads as look-reads
 use Rattle.commands.proofs.systems.copy.Reads as copy-reads
 use Rattle.commands.proofs.systems.define.Reads as define-reads
 use Rattle.commands.proofs.systems.enable.Reads as enable-reads
@@ -17,8 +19,8 @@ use Rattle.commands.proofs.whole.reset.Reads as reset-reads
 use Rattle.commands.proofs.whole.restore.Reads as restore-reads
 use Rattle.commands.proofs.whole.save.Reads as save-reads
 use Rattle.commands.proofs.whole.set_level.Reads as set-level-reads
-use Rattle.engine.proofs.answer.changed.Reads as changed-reads
-use Rattle.engine.proofs.answer.refused.Reads as refused-reads
+use Rattle.engine.proofs.answer.silent.Reads as silent-reads
+use Rattle.engine.proofs.line.subject_of.Reads as subject-of-reads
 use Rattle.engine.proofs.lists.enabled_line.Reads as enabled-line-reads
 use Rattle.engine.proofs.lists.error_line.Reads as error-line-reads
 use Rattle.engine.proofs.lists.links_line.Reads as links-line-reads
@@ -32,11 +34,17 @@ enum-told c = search needs
 refused-requires : tie.Need-refused-requires
 refused-requires c κs = search needs
 
+silent-requires : tie.Need-silent-requires
+silent-requires c κs = search needs
+
 enum-told-2 : tie.Need-enum-told-2
 enum-told-2 c = search needs
 
 refused-requires-2 : tie.Need-refused-requires-2
 refused-requires-2 c κs = search needs
+
+silent-requires-2 : tie.Need-silent-requires-2
+silent-requires-2 c κs = search needs
 
 enum-told-3 : tie.Need-enum-told-3
 enum-told-3 c = search needs
@@ -44,50 +52,68 @@ enum-told-3 c = search needs
 refused-requires-3 : tie.Need-refused-requires-3
 refused-requires-3 c κs = search needs
 
+silent-requires-3 : tie.Need-silent-requires-3
+silent-requires-3 c κs = search needs
+
 enum-known-asked : tie.Need-enum-known-asked
 enum-known-asked c = search needs
 
-define-requires : tie.Need-define-requires
-define-requires c κs = search needs
+look-requires : tie.Need-look-requires
+look-requires c κs = c .before .before .before .before .before .before .pre .0 .shape
 
-changed-requires : tie.Need-changed-requires
-changed-requires c κs = c .define .ensures .1 (c .before .before .before .before .before .before .before .before .before .pre .0 .shape) (c .before .before .before .before .before .before .before .before .before .pre .1 .0 .first)
+define-requires : tie.Need-define-requires
+define-requires c κs = (c .look .ensures .links .few, c .before .before .before .before .before .before .before .pre .1 .0 .first)
+
+silent-requires-4 : tie.Need-silent-requires-4
+silent-requires-4 c κs = search needs
 
 enum-told-4 : tie.Need-enum-told-4
 enum-told-4 c = search needs
 
-link-requires : tie.Need-link-requires
-link-requires c κs = search needs
+look-requires-2 : tie.Need-look-requires-2
+look-requires-2 c κs = c .before .before .before .before .before .pre .0 .shape
 
-changed-requires-2 : tie.Need-changed-requires-2
-changed-requires-2 c κs = c .link .ensures .1 (c .before .before .before .before .before .before .before .before .pre .0 .shape)
+link-requires : tie.Need-link-requires
+link-requires c κs = c .look2 .ensures .links .few
+
+silent-requires-5 : tie.Need-silent-requires-5
+silent-requires-5 c κs = search needs
 
 enum-told-5 : tie.Need-enum-told-5
 enum-told-5 c = search needs
 
-copy-requires : tie.Need-copy-requires
-copy-requires c κs = search needs
+look-requires-3 : tie.Need-look-requires-3
+look-requires-3 c κs = c .before .before .before .before .before .pre .0 .shape
 
-changed-requires-3 : tie.Need-changed-requires-3
-changed-requires-3 c κs = c .copy .ensures .1 (c .before .before .before .before .before .before .before .before .pre .0 .shape) (c .before .before .before .before .before .before .before .before .pre .1 .0 .second)
+copy-requires : tie.Need-copy-requires
+copy-requires c κs = (c .look3 .ensures .links .few, c .before .before .before .before .before .before .pre .1 .0 .second)
+
+silent-requires-6 : tie.Need-silent-requires-6
+silent-requires-6 c κs = search needs
 
 enum-told-6 : tie.Need-enum-told-6
 enum-told-6 c = search needs
 
-remove-requires : tie.Need-remove-requires
-remove-requires c κs = search needs
+look-requires-4 : tie.Need-look-requires-4
+look-requires-4 c κs = c .before .before .before .before .before .pre .0 .shape
 
-changed-requires-4 : tie.Need-changed-requires-4
-changed-requires-4 c κs = c .remove .ensures .1 (c .before .before .before .before .before .before .before .before .pre .0 .shape)
+remove-requires : tie.Need-remove-requires
+remove-requires c κs = c .look4 .ensures .links .few
+
+silent-requires-7 : tie.Need-silent-requires-7
+silent-requires-7 c κs = search needs
 
 enum-told-7 : tie.Need-enum-told-7
 enum-told-7 c = search needs
 
+look-requires-5 : tie.Need-look-requires-5
+look-requires-5 c κs = c .before .before .before .before .before .pre .0 .shape
+
 enable-requires : tie.Need-enable-requires
 enable-requires c κs = search needs
 
-changed-requires-5 : tie.Need-changed-requires-5
-changed-requires-5 c κs = c .enable .ensures .1 (c .before .before .before .before .before .before .before .before .pre .0 .shape)
+silent-requires-8 : tie.Need-silent-requires-8
+silent-requires-8 c κs = search needs
 
 enum-known-asked-2 : tie.Need-enum-known-asked-2
 enum-known-asked-2 c = search needs
@@ -95,8 +121,8 @@ enum-known-asked-2 c = search needs
 set-level-requires : tie.Need-set-level-requires
 set-level-requires c κs = search needs
 
-changed-requires-6 : tie.Need-changed-requires-6
-changed-requires-6 c κs = c .set-level .ensures .1 (c .before .before .before .before .before .before .before .before .before .pre .0 .shape)
+silent-requires-9 : tie.Need-silent-requires-9
+silent-requires-9 c κs = search needs
 
 enum-told-8 : tie.Need-enum-told-8
 enum-told-8 c = search needs
@@ -104,8 +130,8 @@ enum-told-8 c = search needs
 save-requires : tie.Need-save-requires
 save-requires c κs = search needs
 
-changed-requires-7 : tie.Need-changed-requires-7
-changed-requires-7 c κs = c .save .ensures .1 (c .before .before .before .before .before .before .before .before .pre .0 .shape)
+silent-requires-10 : tie.Need-silent-requires-10
+silent-requires-10 c κs = search needs
 
 enum-told-9 : tie.Need-enum-told-9
 enum-told-9 c = search needs
@@ -113,8 +139,8 @@ enum-told-9 c = search needs
 restore-requires : tie.Need-restore-requires
 restore-requires c κs = search needs
 
-changed-requires-8 : tie.Need-changed-requires-8
-changed-requires-8 c κs = c .restore .ensures .1 (c .before .before .before .before .before .before .before .before .pre .0 .shape)
+silent-requires-11 : tie.Need-silent-requires-11
+silent-requires-11 c κs = search needs
 
 enum-told-10 : tie.Need-enum-told-10
 enum-told-10 c = search needs
@@ -122,8 +148,8 @@ enum-told-10 c = search needs
 reset-requires : tie.Need-reset-requires
 reset-requires c κs = search needs
 
-changed-requires-9 : tie.Need-changed-requires-9
-changed-requires-9 c κs = c .reset .ensures .1 (c .before .before .before .before .before .before .before .before .pre .0 .shape)
+silent-requires-12 : tie.Need-silent-requires-12
+silent-requires-12 c κs = search needs
 
 enum-told-11 : tie.Need-enum-told-11
 enum-told-11 c = search needs
@@ -152,8 +178,13 @@ resultants-line-requires c κs = search needs
 enum-told-15 : tie.Need-enum-told-15
 enum-told-15 c = search needs
 
+subject-of-requires : tie.Need-subject-of-requires
+subject-of-requires c κs = search needs
+
 resultant-line-requires : tie.Need-resultant-line-requires
-resultant-line-requires c κs = search needs
+resultant-line-requires c κs =
+    let start = c .before .before .before .before .before .before .before in
+    (start .pre .0, (start .pre .1 .1, named-within (start .args .m) _ _ (c .before .subject-of .ensures)))
 
 enum-told-16 : tie.Need-enum-told-16
 enum-told-16 c = search needs
@@ -162,76 +193,76 @@ error-line-requires : tie.Need-error-line-requires
 error-line-requires c κs = search needs
 
 returns : tie.Need-returns
-returns c = rw (c .before .enum-told .given .1) (c .refused .ensures _ ∙ ap ofOutcome (sym (obeyed-unknown _ _)))
+returns c p = rw (c .before .before .enum-told .given .1) (refusal-taken _ _ _ (c .silent .ensures) _ _ _ (obeyed-unknown _ _) (c .before .refused .ensures))
 
 returns-2 : tie.Need-returns-2
-returns-2 c = rw (c .before .enum-told2 .given .1) (c .refused2 .ensures _ ∙ ap ofOutcome (sym (obeyed-malformed _ _)))
+returns-2 c p = rw (c .before .before .enum-told2 .given .1) (refusal-taken _ _ _ (c .silent2 .ensures) _ _ _ (obeyed-malformed _ _) (c .before .refused2 .ensures))
 
 returns-3 : tie.Need-returns-3
-returns-3 c = rw (c .before .enum-told3 .given .1) (c .refused3 .ensures _ ∙ ap ofOutcome (sym (obeyed-beyond _ _)))
+returns-3 c p = rw (c .before .before .enum-told3 .given .1) (refusal-taken _ _ _ (c .silent3 .ensures) _ _ _ (obeyed-beyond _ _) (c .before .refused3 .ensures))
 
 returns-4 : tie.Need-returns-4
-returns-4 c = rw (c .before .before .before .asked .given .1) (change-answers _ _ _ _ _ (c .changed .ensures) (c .before .define .ensures .0))
+returns-4 c p = rw (c .before .before .before .before .asked .given .1) (change-taken _ _ _ (c .silent4 .ensures) _ _ (c .before .define .ensures _ _ refl (c .before .before .look .ensures)))
 
 returns-5 : tie.Need-returns-5
-returns-5 c = rw (c .before .before .enum-told4 .given .1) (change-answers _ _ _ _ _ (c .changed2 .ensures) (c .before .link .ensures .0))
+returns-5 c p = rw (c .before .before .before .enum-told4 .given .1) (change-taken _ _ _ (c .silent5 .ensures) _ _ (c .before .link .ensures _ refl (c .before .before .look2 .ensures)))
 
 returns-6 : tie.Need-returns-6
-returns-6 c = rw (c .before .before .enum-told5 .given .1) (change-answers _ _ _ _ _ (c .changed3 .ensures) (c .before .copy .ensures .0))
+returns-6 c p = rw (c .before .before .before .enum-told5 .given .1) (change-taken _ _ _ (c .silent6 .ensures) _ _ (c .before .copy .ensures _ refl (c .before .before .look3 .ensures)))
 
 returns-7 : tie.Need-returns-7
-returns-7 c = rw (c .before .before .enum-told6 .given .1) (change-answers _ _ _ _ _ (c .changed4 .ensures) (c .before .remove .ensures .0))
+returns-7 c p = rw (c .before .before .before .enum-told6 .given .1) (change-taken _ _ _ (c .silent7 .ensures) _ _ (c .before .remove .ensures _ _ _ refl (c .before .before .look4 .ensures)))
 
 returns-8 : tie.Need-returns-8
-returns-8 c = rw (c .before .before .enum-told7 .given .1) (change-answers _ _ _ _ _ (c .changed5 .ensures) (c .before .enable .ensures .0))
+returns-8 c p = rw (c .before .before .before .enum-told7 .given .1) (change-taken _ _ _ (c .silent8 .ensures) _ _ (c .before .enable .ensures _ _ _ refl (c .before .before .look5 .ensures)))
 
 returns-9 : tie.Need-returns-9
-returns-9 c = rw (c .before .before .before .asked2 .given .1) (change-answers _ _ _ _ _ (c .changed6 .ensures) (c .before .set-level .ensures .0))
+returns-9 c p = rw (c .before .before .before .asked2 .given .1) (change-taken _ _ _ (c .silent9 .ensures) _ _ (c .before .set-level .ensures _))
 
 returns-10 : tie.Need-returns-10
-returns-10 c = rw (c .before .before .enum-told8 .given .1) (change-answers _ _ _ _ _ (c .changed7 .ensures) (c .before .save .ensures .0))
+returns-10 c p = rw (c .before .before .enum-told8 .given .1) (change-taken _ _ _ (c .silent10 .ensures) _ _ (c .before .save .ensures _))
 
 returns-11 : tie.Need-returns-11
-returns-11 c = rw (c .before .before .enum-told9 .given .1) (change-answers _ _ _ _ _ (c .changed8 .ensures) (c .before .restore .ensures .0))
+returns-11 c p = rw (c .before .before .enum-told9 .given .1) (change-taken _ _ _ (c .silent11 .ensures) _ _ (c .before .restore .ensures _ refl))
 
 returns-12 : tie.Need-returns-12
-returns-12 c = rw (c .before .before .enum-told10 .given .1) (change-answers _ _ _ _ _ (c .changed9 .ensures) (c .before .reset .ensures .0))
+returns-12 c p = rw (c .before .before .enum-told10 .given .1) (change-taken _ _ _ (c .silent12 .ensures) _ _ (c .before .reset .ensures _ refl))
 
 same-length : tie.Need-same-length
 same-length c = search needs
 
 returns-13 : tie.Need-returns-13
-returns-13 c = rw (c .before .before .before .before .enum-told11 .given .1) (c .before .before .enabled-line .ensures)
+returns-13 c p = rw (c .before .before .before .before .enum-told11 .given .1) (c .before .before .enabled-line .ensures p _ _)
 
 same-length-2 : tie.Need-same-length-2
 same-length-2 c = search needs
 
 returns-14 : tie.Need-returns-14
-returns-14 c = rw (c .before .before .before .before .enum-told12 .given .1) (c .before .before .systems-line .ensures)
+returns-14 c p = rw (c .before .before .before .before .enum-told12 .given .1) (c .before .before .systems-line .ensures p _ _)
 
 same-length-3 : tie.Need-same-length-3
 same-length-3 c = search needs
 
 returns-15 : tie.Need-returns-15
-returns-15 c = rw (c .before .before .before .before .enum-told13 .given .1) (c .before .before .links-line .ensures)
+returns-15 c p = rw (c .before .before .before .before .enum-told13 .given .1) (c .before .before .links-line .ensures p _ _)
 
 same-length-4 : tie.Need-same-length-4
 same-length-4 c = search needs
 
 returns-16 : tie.Need-returns-16
-returns-16 c = rw (c .before .before .before .before .enum-told14 .given .1) (c .before .before .resultants-line .ensures)
+returns-16 c p = rw (c .before .before .before .before .enum-told14 .given .1) (c .before .before .resultants-line .ensures p _ _)
 
 same-length-5 : tie.Need-same-length-5
 same-length-5 c = search needs
 
 returns-17 : tie.Need-returns-17
-returns-17 c = rw (c .before .before .before .before .enum-told15 .given .1) (c .before .before .resultant-line .ensures)
+returns-17 c p = rw (c .before .before .before .before .before .enum-told15 .given .1) (c .before .before .resultant-line .ensures _ p _ _ (c .before .before .before .before .subject-of .ensures))
 
 same-length-6 : tie.Need-same-length-6
 same-length-6 c = search needs
 
 returns-18 : tie.Need-returns-18
-returns-18 c = rw (c .before .before .before .before .enum-told16 .given .1) (c .before .before .error-line .ensures)
+returns-18 c p = rw (c .before .before .before .before .enum-told16 .given .1) (c .before .before .error-line .ensures _ p _)
 
 pub carry-out-spec : {M : Type 1} → statement M
 carry-out-spec =
@@ -239,37 +270,45 @@ carry-out-spec =
     (tie.spec
     enum-told
     refused-requires
+    silent-requires
     enum-told-2
     refused-requires-2
+    silent-requires-2
     enum-told-3
     refused-requires-3
+    silent-requires-3
     enum-known-asked
+    look-requires
     define-requires
-    changed-requires
+    silent-requires-4
     enum-told-4
+    look-requires-2
     link-requires
-    changed-requires-2
+    silent-requires-5
     enum-told-5
+    look-requires-3
     copy-requires
-    changed-requires-3
+    silent-requires-6
     enum-told-6
+    look-requires-4
     remove-requires
-    changed-requires-4
+    silent-requires-7
     enum-told-7
+    look-requires-5
     enable-requires
-    changed-requires-5
+    silent-requires-8
     enum-known-asked-2
     set-level-requires
-    changed-requires-6
+    silent-requires-9
     enum-told-8
     save-requires
-    changed-requires-7
+    silent-requires-10
     enum-told-9
     restore-requires
-    changed-requires-8
+    silent-requires-11
     enum-told-10
     reset-requires
-    changed-requires-9
+    silent-requires-12
     enum-told-11
     enabled-line-requires
     enum-told-12
@@ -279,6 +318,7 @@ carry-out-spec =
     enum-told-14
     resultants-line-requires
     enum-told-15
+    subject-of-requires
     resultant-line-requires
     enum-told-16
     error-line-requires

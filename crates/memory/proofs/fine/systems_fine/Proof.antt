@@ -10,7 +10,7 @@ use Rattle.model.specs.Stored.{systemsOf}
 use Rattle.memory.specs.Codes.{codesOf}
 use Rattle.memory.specs.Fine.{storedFine, storedAllFine}
 use Rattle.chains.proofs.Copies.{length-mapped, unset}
-use Rattle.memory.proofs.Tests.{all-next, all-stop, all-end}
+use Rattle.text.proofs.Lists.{all-next, all-stop, all-end}
 use Rattle.memory.proofs.fine.systems_fine.Statement.{statement}
 use Rattle.memory.proofs.fine.systems_fine.Tie as tie
 

@@ -6,8 +6,8 @@ use borrow.Author.Tests.{not-true, not-false}
 use lib.ListN.{length, drop}
 use Rattle.model.specs.Lists.{all}
 use Rattle.model.specs.Words.{legalName, nameByte}
-use Rattle.memory.proofs.Tests.{all-next, all-stop, all-end}
-use Rattle.memory.proofs.Bytes.{legal-empty, legal-long, legal-first, legal-rest}
+use Rattle.text.proofs.Lists.{all-next, all-stop, all-end}
+use Rattle.text.proofs.NameLaws.{legal-none, legal-long, legal-first, legal-rest}
 use Rattle.memory.proofs.names.legal_bytes.Statement.{statement}
 use Rattle.memory.proofs.names.legal_bytes.Tie as tie
 
@@ -18,23 +18,23 @@ abbrev μ-loop : tie.MeasureT-loop
 μ-loop t n i₀ i = n - i
 
 returns : tie.Need-returns Inv-loop μ-loop
-returns c = sym (legal-empty _ (c .if1 .taken))
+returns c = sym (legal-none _ (c .if1 .taken))
 
 returns-2 : tie.Need-returns-2 Inv-loop μ-loop
 returns-2 c = sym (legal-long _ (c .if2 .taken))
 
-shared-slice-read-capital-byte : tie.Need-shared-slice-read-capital-byte Inv-loop μ-loop
-shared-slice-read-capital-byte c = search needs
+shared-slice-read-between : tie.Need-shared-slice-read-between Inv-loop μ-loop
+shared-slice-read-between c = search needs
 
-capital-byte-requires : tie.Need-capital-byte-requires Inv-loop μ-loop
-capital-byte-requires c κs = search needs
+between-requires : tie.Need-between-requires Inv-loop μ-loop
+between-requires c κs = search needs
 
 returns-3 : tie.Need-returns-3 Inv-loop μ-loop
 returns-3 c =
-    sym (legal-first _ (omega arith) (sym (c .before .capital-byte .ensures) ∙ not-true _ (c .if3 .taken)))
+    sym (legal-first _ (sym (c .before .between .ensures) ∙ not-true _ (c .if3 .taken)))
 
 loop-holds : tie.Need-loop-holds Inv-loop μ-loop
-loop-holds c = (search needs, refl, legal-rest _ (omega arith) (omega arith) (sym (c .before .capital-byte .ensures) ∙ not-false _ (c .if3 .left)))
+loop-holds c = (search needs, refl, legal-rest _ (omega arith) (omega arith) (sym (c .before .between .ensures) ∙ not-false _ (c .if3 .left)))
 
 shared-slice-read-name-byte : tie.Need-shared-slice-read-name-byte Inv-loop μ-loop
 shared-slice-read-name-byte c = search needs
@@ -69,8 +69,8 @@ legal-bytes-spec =
     μ-loop
     returns
     returns-2
-    shared-slice-read-capital-byte
-    capital-byte-requires
+    shared-slice-read-between
+    between-requires
     returns-3
     loop-holds
     shared-slice-read-name-byte

@@ -69,7 +69,7 @@ returns-3 : tie.Need-returns-3
 returns-3 c =
     let start = c .before .before .before .before .before .before .before .before .before .before .before .before .before .before .before .before .before .before in
     let w = end-inside (start .args .block .now) 0 _ (omega arith) (c .before .before .before .before .before .before .before .before .before .before .before .line-end .ensures) in
-    held-ends (start .args .s) (start .args .block .now) (start .args .out .now) _ (c .before .before .before .before .before .before .before .before .before .before .before .line-end .result) (c .before .before .before .before .before .before .before .before .before .keep .result) (c .before .before .before .before .answer-line .result) (c .nothing-held .result) (start .pre .1 .0) (c .before .before .before .before .before .before .before .before .before .before .before .line-end .ensures)
+    held-ends (start .args .s) (start .args .block .now) (start .args .out .now) _ (c .before .before .before .before .before .before .before .before .before .before .before .line-end .result) (c .before .before .before .before .before .before .before .before .before .keep .result) (c .before .before .before .before .answer-line .result .state) _ (c .nothing-held .result) (start .pre .1 .0) (c .before .before .before .before .before .before .before .before .before .before .before .line-end .ensures)
     (omega (arith, w, c .before .before .before .before .before .before .before .before .if2 .left)) (c .before .before .before .before .before .before .before .before .before .keep .ensures) (c .before .before .before .before .answer-line .ensures) (c .nothing-held .ensures)
 
 pub feed-spec : {M : Type 1} → statement M

@@ -39,7 +39,7 @@ same-length c = search needs
 returns-2 : tie.Need-returns-2
 returns-2 c =
     let start = c .before .before .before .before .before .before .before .before .before .before in
-    ends-answered (start .args .s) (start .args .out .now) _ (c .before .before .answer-line .result) (omega (arith, held-long start, c .before .before .before .before .before .if1 .left)) (c .before .before .answer-line .ensures)
+    ends-answered (start .args .s) (start .args .out .now) _ (c .before .before .answer-line .result .state) _ (omega (arith, held-long start, c .before .before .before .before .before .if1 .left)) (c .before .before .answer-line .ensures)
 
 pub finish-spec : {M : Type 1} → statement M
 finish-spec =

@@ -13,7 +13,8 @@ use Rattle.model.specs.Lists.{all}
 use Rattle.model.specs.Words.{upper, legalName, capital, nameByte}
 use Rattle.text.specs.Cursor.{wordAt, wordOf}
 use Rattle.text.specs.declared.names.NameRead.{NameRead}
-use Rattle.text.proofs.NameLaws.{legal-none, legal-long, legal-first, legal-bytes, bytes-next, bytes-stop, bytes-end, stored-next, read-none, read-some}
+use Rattle.text.proofs.Lists.{all-next, all-stop, all-end}
+use Rattle.text.proofs.NameLaws.{legal-none, legal-long, legal-first, legal-bytes, stored-next, read-none, read-some}
 use Rattle.text.proofs.WordLaws.{length-word, word-at}
 use Rattle.text.proofs.names.read_name.Statement.{statement}
 use Rattle.text.proofs.names.read_name.Tie as tie
@@ -126,7 +127,7 @@ returns-4 c =
     let w = Word (StartOf k) in
     let e : nameByte (getD w (k .loop .i) 0) ≡ false = ap nameByte (byte u) ∙ sym (b .name-byte .ensures) ∙ not-true _ (c .before .if4 .taken) in
     c .no-name4 .ensures ∙
-    sym (read-none w (k .loop .inv .4 ∙ bytes-stop w (k .loop .i) (omega (arith, long (StartOf k), u .before .before .loop-test .taken)) e))
+    sym (read-none w (k .loop .inv .4 ∙ all-stop nameByte w (k .loop .i) 0 (omega (arith, long (StartOf k), u .before .before .loop-test .taken)) e))
 
 array-write-bytes : tie.Need-array-write-bytes Inv-loop μ-loop
 array-write-bytes c = let k = c .before .before .before .before .before in omega (arith, k .loop .inv .1, c .before .before .before .before .loop-test .taken)
@@ -151,7 +152,7 @@ loop-again c =
       v .1,
       v .2,
       rw (v .3) (stored-next w (k .loop .i) (u .upper2 .result) h (omega (arith, v .1)) (byte u)),
-      v .4 ∙ bytes-next w (k .loop .i) h e,
+      v .4 ∙ all-next nameByte w (k .loop .i) 0 h e,
     )
 
 cast-t10 : tie.Need-cast-t10 Inv-loop μ-loop
@@ -173,7 +174,7 @@ returns-5 c =
     v .3 ∙ ap (λ (j : ℕ). take j w ++ replicate (nameLimit - j) 0) e ∙ ap (λ (l : List ℕ). l ++ z) (take-length w)
     in
     ap (λ (l : List ℕ). made l (s .args .w .end - s .args .w .start)) b ∙ ap (made (w ++ z)) (sym (long s)) ∙
-    sym (read-some w (v .4 ∙ bytes-end w (k .loop .i) (omega arith)))
+    sym (read-some w (v .4 ∙ all-end nameByte w (k .loop .i) (omega arith)))
 
 pub read-name-spec : {M : Type 1} → statement M
 read-name-spec =

@@ -1,23 +1,28 @@
-use Prim.Native.Nat.{_-_, _≤_}
-use mathlib.Core.Path.{_≡_, refl, sym, _∙_}
+use Prim.Native.Nat.{_≤_}
+use mathlib.Core.Path.{_≡_, refl, sym}
+use mathlib.Core.Bool.{true}
 use native.Mathlib.Omega.{arith}
 use lib.ListN.{length, drop}
 use Rattle.model.specs.Lists.{same}
-use Rattle.text.proofs.Lists.{same-length, same-next, same-stop, same-end}
+use Rattle.text.proofs.Lists.{same-length, same-differ, same-back, same-end}
 use Rattle.text.proofs.names.same_bytes.Statement.{statement}
 use Rattle.text.proofs.names.same_bytes.Tie as tie
 
+-- the bytes from `left` on agree
 abbrev Inv-loop : tie.InvT-loop
-Inv-loop a b n i₀ i = (i ≤ n) × (n ≡ length a) × (n ≡ length b) × (same a b ≡ same (drop i a) (drop i b))
+Inv-loop a b n left₀ left = (left ≤ n) × (n ≡ length a) × (n ≡ length b) × (same (drop left a) (drop left b) ≡ true)
 
 abbrev μ-loop : tie.MeasureT-loop
-μ-loop a b n i₀ i = n - i
+μ-loop a b n left₀ left = left
 
 returns : tie.Need-returns Inv-loop μ-loop
 returns c = sym (same-length _ _ (c .if1 .taken))
 
 loop-holds : tie.Need-loop-holds Inv-loop μ-loop
-loop-holds c = (omega arith, refl, c .if1 .left, refl)
+loop-holds c = (omega arith, refl, c .if1 .left, same-end _ _ (length (c .before .args .a .now)) (omega arith) (omega arith))
+
+sub-left : tie.Need-sub-left Inv-loop μ-loop
+sub-left c = omega arith
 
 shared-slice-read-if2 : tie.Need-shared-slice-read-if2 Inv-loop μ-loop
 shared-slice-read-if2 c = omega arith
@@ -26,12 +31,7 @@ shared-slice-read-if2-2 : tie.Need-shared-slice-read-if2-2 Inv-loop μ-loop
 shared-slice-read-if2-2 c = omega arith
 
 returns-2 : tie.Need-returns-2 Inv-loop μ-loop
-returns-2 c =
-    let l = c .before .before .before .before in
-    sym (l .loop .inv .3 ∙ same-stop _ _ (l .loop .i) (omega arith) (omega arith) (c .if2 .taken))
-
-add-i : tie.Need-add-i Inv-loop μ-loop
-add-i c = omega arith
+returns-2 c = sym (same-differ _ _ _ (c .if2 .taken))
 
 loop-less : tie.Need-loop-less Inv-loop μ-loop
 loop-less c = omega arith
@@ -39,10 +39,13 @@ loop-less c = omega arith
 loop-again : tie.Need-loop-again Inv-loop μ-loop
 loop-again c =
     let l = c .before .before .before .before in
-    (omega arith, l .loop .inv .1, l .loop .inv .2, l .loop .inv .3 ∙ same-next _ _ (l .loop .i) (omega arith) (omega arith) (c .if2 .left))
+    (omega arith, l .loop .inv .1, l .loop .inv .2, same-back _ _ (l .loop .left) (omega arith) (omega arith) (omega arith) (c .if2 .left) (l .loop .inv .3))
 
 returns-3 : tie.Need-returns-3 Inv-loop μ-loop
-returns-3 c = let l = c .before in sym (l .loop .inv .3 ∙ same-end _ _ (l .loop .i) (omega arith) (omega arith))
+returns-3 c =
+    let l = c .before in
+    let z : l .loop .left ≡ 0 = omega arith in
+    sym (rw z at (l .loop .inv .3))
 
 pub same-bytes-spec : {M : Type 1} → statement M
 same-bytes-spec =
@@ -52,10 +55,10 @@ same-bytes-spec =
     μ-loop
     returns
     loop-holds
+    sub-left
     shared-slice-read-if2
     shared-slice-read-if2-2
     returns-2
-    add-i
     loop-less
     loop-again
     returns-3)

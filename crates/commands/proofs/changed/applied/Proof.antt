@@ -1,0 +1,131 @@
+use mathlib.Core.Path.{_≡_, refl, ap}
+use mathlib.Core.Bool.{true}
+use borrow.Author.Needs.{needs}
+use Rattle.model.specs.declared.Memory.{Memory as StoredMemory}
+use Rattle.model.specs.declared.State.{State as StoredState}
+use Rattle.model.specs.Effects.{withVolatile}
+use Rattle.model.specs.Stored.{stateOf, memoryShaped, shaped}
+use Rattle.model.proofs.Basics.{and-split, and-join}
+use Rattle.commands.specs.Done.{done, Fits}
+use Rattle.commands.proofs.changed.applied.Statement.{statement}
+use Rattle.commands.proofs.changed.applied.Tie as tie
+
+-- the shape of both memories
+parts : (s : StoredState) → shaped s ≡ true → (memoryShaped (s .volatile) ≡ true) × (memoryShaped (s .permanent) ≡ true)
+unfolding shaped
+parts s h = and-split (memoryShaped (s .volatile)) (memoryShaped (s .permanent)) h
+
+-- another volatile memory with shape
+kept : (s : StoredState) (m : StoredMemory) → shaped s ≡ true → memoryShaped m ≡ true → shaped (record { volatile = m; permanent = s .permanent; level = s .level; error = s .error }) ≡ true
+unfolding shaped
+kept s m h v = and-join v (parts s h .1)
+
+enum-told : tie.Need-enum-told
+enum-told c = search needs
+
+enum-known-deed : tie.Need-enum-known-deed
+enum-known-deed c = search needs
+
+enum-known-deed-2 : tie.Need-enum-known-deed-2
+enum-known-deed-2 c = search needs
+
+put-at-requires : tie.Need-put-at-requires
+unfolding Fits
+put-at-requires c κs = rw (c .before .deed2 .given .1) at (c .before .before .before .before .before .pre .fits)
+
+enum-known-deed-3 : tie.Need-enum-known-deed-3
+enum-known-deed-3 c = search needs
+
+removed-at-requires : tie.Need-removed-at-requires
+unfolding Fits
+removed-at-requires c κs = rw (c .before .deed3 .given .1) at (c .before .before .before .before .before .pre .fits)
+
+enum-known-deed-4 : tie.Need-enum-known-deed-4
+enum-known-deed-4 c = search needs
+
+enum-known-deed-5 : tie.Need-enum-known-deed-5
+enum-known-deed-5 c = search needs
+
+enum-told-2 : tie.Need-enum-told-2
+enum-told-2 c = search needs
+
+enum-told-3 : tie.Need-enum-told-3
+enum-told-3 c = search needs
+
+enum-told-4 : tie.Need-enum-told-4
+enum-told-4 c = search needs
+
+factory-memory-requires : tie.Need-factory-memory-requires
+factory-memory-requires c κs = search needs
+
+returns : tie.Need-returns
+unfolding done
+returns c = rw (c .enum-told .given .1, done) (refl, λ h. h)
+
+returns-2 : tie.Need-returns-2
+unfolding done shaped
+returns-2 c = rw (c .before .deed .given .1, done) (refl, λ h. h)
+
+returns-3 : tie.Need-returns-3
+unfolding done
+returns-3 c =
+    let start = c .before .before .before .before .before .before in
+    let s = start .args .s in
+    let put = c .put-at .ensures in
+    rw (c .before .before .deed2 .given .1, done) (ap (withVolatile (stateOf s)) (put .0), λ h. kept s _ h (put .1 (parts s h .0) (start .pre .named)))
+
+returns-4 : tie.Need-returns-4
+unfolding done
+returns-4 c =
+    let s = c .before .before .before .before .before .before .args .s in
+    let gone = c .removed-at .ensures in
+    rw (c .before .before .deed3 .given .1, done) (ap (withVolatile (stateOf s)) (gone .0), λ h. kept s _ h (gone .1 (parts s h .0)))
+
+returns-5 : tie.Need-returns-5
+unfolding done shaped memoryShaped
+returns-5 c = rw (c .before .deed4 .given .1, done) (refl, λ h. h)
+
+returns-6 : tie.Need-returns-6
+unfolding done shaped
+returns-6 c = rw (c .before .deed5 .given .1, done) (refl, λ h. h)
+
+returns-7 : tie.Need-returns-7
+unfolding done shaped
+returns-7 c = let s = c .before .before .before .before .args .s in rw (c .enum-told2 .given .1, done) (refl, λ h. and-join (parts s h .0) (parts s h .0))
+
+returns-8 : tie.Need-returns-8
+unfolding done
+returns-8 c = let s = c .before .before .before .before .args .s in rw (c .enum-told3 .given .1, done) (refl, λ h. kept s _ h (parts s h .1))
+
+returns-9 : tie.Need-returns-9
+unfolding done
+returns-9 c =
+    let s = c .before .before .before .before .before .args .s in
+    let new = c .factory-memory .ensures in
+    rw (c .before .enum-told4 .given .1, done) (ap (withVolatile (stateOf s)) (new .0), λ h. kept s _ h (new .1))
+
+pub applied-spec : {M : Type 1} → statement M
+applied-spec =
+    tie.close
+    (tie.spec
+    enum-told
+    enum-known-deed
+    enum-known-deed-2
+    put-at-requires
+    enum-known-deed-3
+    removed-at-requires
+    enum-known-deed-4
+    enum-known-deed-5
+    enum-told-2
+    enum-told-3
+    enum-told-4
+    factory-memory-requires
+    returns
+    returns-2
+    returns-3
+    returns-4
+    returns-5
+    returns-6
+    returns-7
+    returns-8
+    returns-9)

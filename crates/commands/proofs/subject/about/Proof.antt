@@ -1,0 +1,47 @@
+use Prim.Native.Nat.{ℕ}
+use mathlib.Core.Path.{sym, ap, _∙_}
+use mathlib.Core.Bool.{not}
+use mathlib.Core.Option.{Option}
+use borrow.Author.Needs.{needs}
+use Rattle.model.specs.Lists.{there?}
+use Rattle.model.specs.Memory.{Ref, refOr, systemAt}
+use Rattle.commands.proofs.subject.about.Statement.{statement}
+use Rattle.commands.proofs.subject.about.Tie as tie
+
+found-at-requires : tie.Need-found-at-requires
+found-at-requires c κs = search needs
+
+group-found-requires : tie.Need-group-found-requires
+group-found-requires c κs = search needs
+
+is-absent-requires : tie.Need-is-absent-requires
+is-absent-requires c κs = search needs
+
+reserved-name-requires : tie.Need-reserved-name-requires
+reserved-name-requires c κs = search needs
+
+returns : tie.Need-returns
+returns c =
+    λ m place kind.
+    let l = m .systems in
+    let at = c .before .before .before .found-at .ensures in
+    let found = at .0 l (m .enabled) place in
+    let there = kind ∙ ap (λ (q : ℕ). systemAt l q .kind) (sym (at .1)) in
+    record {
+      found-is = found;
+      absent-is = c .before .is-absent .ensures l ∙ ap (λ (o : Option Ref). not (there? o)) found;
+      reserved-is = c .reserved-name .ensures;
+      place-is = place;
+      group-is = c .before .before .group-found .ensures l there ∙ ap (λ (o : Option Ref). refOr o .group) found;
+      kind-is = kind ∙ ap (λ (q : ℕ). systemAt l q .kind) place;
+    }
+
+pub about-spec : {M : Type 1} → statement M
+about-spec =
+    tie.close
+    (tie.spec
+    found-at-requires
+    group-found-requires
+    is-absent-requires
+    reserved-name-requires
+    returns)

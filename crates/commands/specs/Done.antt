@@ -1,0 +1,55 @@
+-- What a decision makes of a state.
+use Prim.Native.Nat.{_≤_, _<_}
+use mathlib.Core.Path.{_≡_}
+use Rattle.model.specs.Base.{true}
+use Rattle.model.specs.declared.Memory.{Memory as StoredMemory}
+use Rattle.model.specs.declared.State.{State as StoredState}
+use Rattle.model.specs.Limits.{maxSystems}
+use Rattle.model.specs.Memory.{System, State, factory}
+use Rattle.model.specs.Request.{Change}
+use Rattle.model.specs.Effects.{withVolatile, withError, removedAt}
+use Rattle.model.specs.Stored.{systemOf, systemsOf, stateOf, nameShaped}
+use Rattle.memory.specs.Put.{putAt, holding}
+use Rattle.commands.specs.declared.changed.Deed.{Deed}
+use Rattle.commands.specs.declared.changed.Deed.the-variants.{Keep, SetError, Put, Remove, Enable, SetLevel, Save, Restore, Reset}
+use Rattle.commands.specs.declared.changed.Decision.{Decision}
+use Rattle.commands.specs.Given.{Given, given}
+use lib.ListN.{length}
+
+-- the state once it is done; x is the system that is put
+unfoldable pub done : Deed → System → State → State
+done Keep x st = st
+done (SetError n) x st = withError st n
+done (Put k) x st = withVolatile st (putAt (st .volatile) k x)
+done (Remove k) x st = withVolatile st (removedAt (st .volatile) k)
+done (Enable e) x st = withVolatile st (holding (st .volatile .systems) e)
+done (SetLevel n) x st = record { volatile = st .volatile; permanent = st .permanent; level = n; error = st .error }
+done Save x st = record { volatile = st .volatile; permanent = st .volatile; level = st .level; error = st .error }
+done Restore x st = withVolatile st (st .permanent)
+done Reset x st = withVolatile st factory
+
+-- its place is one of the stored memory's, or a free one
+unfoldable pub Fits : Deed → StoredMemory → Type 0
+Fits Keep m = Unit {0}
+Fits (SetError n) m = Unit {0}
+Fits (Put k) m = (k ≤ maxSystems) × (k ≡ 0 → m .count < maxSystems)
+Fits (Remove k) m = (0 < k) × (k ≤ length (systemsOf m))
+Fits (Enable e) m = Unit {0}
+Fits (SetLevel n) m = Unit {0}
+Fits Save m = Unit {0}
+Fits Restore m = Unit {0}
+Fits Reset m = Unit {0}
+
+-- a decision that can be carried out on the stored memory m
+pub record Doable (m : StoredMemory) (d : Decision) : Type 0 where
+  pub fits : Fits (d .deed) m
+  pub named : nameShaped (d .system) ≡ true
+
+-- what a decision gives in a state
+abbrev pub givenOf : Decision → State → Given
+givenOf d st = record { state = done (d .deed) (systemOf (d .system)) st; number = d .number }
+
+-- the decision is the document's of the change c in the stored state s, and can be carried out
+pub record Decides (s : StoredState) (c : Change) (d : Decision) : Type 0 where
+  pub given-is : givenOf d (stateOf s) ≡ given (stateOf s) c
+  pub doable : Doable (s .volatile) d

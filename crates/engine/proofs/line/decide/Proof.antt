@@ -1,0 +1,84 @@
+-- `decide`: 2 and 3 come first, then what the line asks.
+use mathlib.Core.Path.{sym, ap, _∙_}
+use borrow.Author.Tests.{lt-ltb, le-ltb}
+use Rattle.model.specs.Refusals.{short}
+use Rattle.model.specs.Request.{Reading}
+use Rattle.model.specs.Stored.{stateOf}
+use Rattle.engine.specs.Fine.{stateWith}
+use Rattle.engine.specs.Obeyed.{obeyed}
+use Rattle.engine.proofs.Steps.{step-short, step-unreadable, step-obeyed}
+use Rattle.engine.proofs.Taking.{retold, refusal-taken}
+use borrow.Author.Needs.{needs}
+use Rattle.engine.proofs.line.decide.Statement.{statement}
+use Rattle.engine.proofs.line.decide.Tie as tie
+use Rattle.engine.proofs.line.decide.Reads as reads
+use Rattle.engine.proofs.line.decide.Lts as lts
+use Rattle.commands.proofs.changed.refused.Reads as refused-reads
+use Rattle.engine.proofs.answer.silent.Reads as silent-reads
+use Rattle.engine.proofs.line.carry_out.Reads as carry-out-reads
+use Rattle.request.proofs.printable.unreadable.Reads as unreadable-reads
+use Rattle.request.proofs.read.Reads as read-reads
+
+refused-requires : tie.Need-refused-requires
+refused-requires c κs = search needs
+
+silent-requires : tie.Need-silent-requires
+silent-requires c κs = search needs
+
+returns : tie.Need-returns
+unfolding short
+returns c p fine =
+    let start = c .before .before .before .before .before in
+    refusal-taken _ _ _ (c .silent .ensures) _ _ _ (step-short _ (start .args .line .now) _ (fine .formed) (lt-ltb _ _ (c .before .before .if1 .taken))) (c .before .refused .ensures)
+
+unreadable-requires : tie.Need-unreadable-requires
+unreadable-requires c κs = search needs
+
+refused-requires-2 : tie.Need-refused-requires-2
+refused-requires-2 c κs = search needs
+
+silent-requires-2 : tie.Need-silent-requires-2
+silent-requires-2 c κs = search needs
+
+returns-2 : tie.Need-returns-2
+unfolding short
+returns-2 c p fine =
+    let start = c .before .before .before .before .before .before .before in
+    refusal-taken _ _ _ (c .silent2 .ensures) _ _ _
+    (step-unreadable _ (start .args .line .now) _ (fine .formed) (le-ltb _ _ (c .before .before .before .before .if1 .left)) (sym (c .before .before .before .unreadable .ensures) ∙ c .before .before .if2 .taken))
+    (c .before .refused2 .ensures)
+
+read-requires : tie.Need-read-requires
+read-requires c κs = search needs
+
+carry-out-requires : tie.Need-carry-out-requires
+carry-out-requires c κs = search needs
+
+same-length : tie.Need-same-length
+same-length c = search needs
+
+returns-3 : tie.Need-returns-3
+unfolding short
+returns-3 c p fine =
+    let start = c .before .before .before .before .before .before .before .before .before .before in
+    let st = stateOf (stateWith (start .args .m) p (start .args .level) (start .args .error)) in
+    retold
+    (step-obeyed st (start .args .line .now) _ (fine .formed) (le-ltb _ _ (c .before .before .before .before .before .before .before .if1 .left)) (sym (c .before .before .before .before .before .before .unreadable .ensures) ∙ c .before .before .before .before .before .if2 .left)
+    ∙ ap (λ (r : Reading). obeyed st r (start .args .reply .now)) (sym (c .before .before .before .before .read .ensures .says)))
+    (c .before .before .carry-out .ensures p)
+
+pub decide-spec : {M : Type 1} → statement M
+decide-spec =
+    tie.close
+    (tie.spec
+    refused-requires
+    silent-requires
+    returns
+    unreadable-requires
+    refused-requires-2
+    silent-requires-2
+    returns-2
+    read-requires
+    carry-out-requires
+    same-length
+    returns-3)

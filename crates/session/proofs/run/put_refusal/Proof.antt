@@ -1,0 +1,50 @@
+-- `put_refusal`: three writes, one after the other.
+use mathlib.Core.Path.{_≡_}
+use native.Mathlib.Omega.{arith}
+use Rattle.print.proofs.Laws.{length-over, decimal-short, wrote-then}
+use Rattle.session.proofs.Answering.{refusal-written}
+use borrow.Author.Needs.{needs}
+use Rattle.session.proofs.run.put_refusal.Statement.{statement}
+use Rattle.session.proofs.run.put_refusal.Tie as tie
+use Rattle.session.proofs.run.put_refusal.Reads as reads
+use Rattle.session.proofs.run.put_refusal.Lts as lts
+use Rattle.print.proofs.put_byte.Reads as put-byte-reads
+use Rattle.print.proofs.put_decimal.Reads as put-decimal-reads
+use Rattle.print.proofs.put_text.Reads as put-text-reads
+
+slice-aggregate-put-text : tie.Need-slice-aggregate-put-text
+slice-aggregate-put-text c = search needs
+
+put-text-requires : tie.Need-put-text-requires
+put-text-requires c κs = search needs
+
+put-decimal-requires : tie.Need-put-decimal-requires
+put-decimal-requires c κs =
+    let start = c .before .before .before .before .before .before .before in
+    rw (c .before .before .before .put-text .ensures .bytes, length-over _ (start .args .out .now) 0) (omega (arith, c .before .before .before .put-text .ensures .place, decimal-short (start .args .number), start .pre))
+
+put-byte-requires : tie.Need-put-byte-requires
+put-byte-requires c κs =
+    let start = c .before .before .before .before .before .before .before .before .before .before .before in
+    rw (c .before .before .before .put-decimal .ensures .bytes, length-over, c .before .before .before .before .before .before .before .put-text .ensures .bytes, length-over)
+    (omega (arith, c .before .before .before .before .before .before .before .put-text .ensures .place, c .before .before .before .put-decimal .ensures .place, decimal-short (start .args .number), start .pre))
+
+same-length : tie.Need-same-length
+same-length c = search needs
+
+returns : tie.Need-returns
+returns c =
+    let start = c .before .before .before .before .before .before .before .before .before .before .before .before .before .before in
+    refusal-written (start .args .number) (start .args .out .now) (c .before .before .put-byte .last .0) (c .before .before .put-byte .result) (start .pre)
+    (wrote-then (c .before .before .before .before .before .before .before .before .before .before .put-text .ensures) (wrote-then (c .before .before .before .before .before .before .put-decimal .ensures) (c .before .before .put-byte .ensures)))
+
+pub put-refusal-spec : {M : Type 1} → statement M
+put-refusal-spec =
+    tie.close
+    (tie.spec
+    slice-aggregate-put-text
+    put-text-requires
+    put-decimal-requires
+    put-byte-requires
+    same-length
+    returns)

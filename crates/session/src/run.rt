@@ -1,0 +1,102 @@
+// The lines of a block, one after the other. The state lies open in its parts, and what a line does is done there in place: no line copies the state.
+use commands::changed::Deed;
+use engine::line::ROOM;
+use engine::line::decide;
+use lines::line_end;
+use memory::edit::put_at;
+use memory::edit::removed_at;
+use memory::factory::factory_memory;
+use model::Memory;
+use model::State;
+use print::put_byte;
+use print::put_decimal;
+use print::put_text;
+ghost use mathlib.Core.Path.{_≡_};
+ghost use Prim.Native.Nat.{_≤_};
+ghost use lib.ListN.{length};
+ghost use Rattle.model.specs.Limits.{bufferLimit};
+ghost use Rattle.engine.specs.Fine.{Fine, stateWith};
+ghost use Rattle.reply.specs.Lines.{Replied};
+ghost use Rattle.session.specs.Blocks.{refusalText, Says, Runs};
+
+// What a run left: the state, how many bytes of the block were used, and how many bytes of answers were written.
+pub struct Ran {
+    pub state: State,
+    pub used: usize,
+    pub written: usize,
+}
+
+// E and the number of a refusal.
+fn put_refusal(number: u8, out: &mut [u8]) -> usize
+    requires { ⌜ bufferLimit ≤ length (now out) ⌝ }
+    ensures { λ r. ⌜ Replied (refusalText number) (now (out .entry)) (now (out .exit)) r ⌝ }
+{
+    let a = put_text(out, 0, b"E ");
+    let b = put_decimal(out, a, number as u64);
+    put_byte(out, b, b'\n')
+}
+
+// How many bytes an answer has, once E and the number are written where it is a refusal.
+pub fn say(number: u8, count: usize, out: &mut [u8]) -> usize
+    requires { ⌜ bufferLimit ≤ length (now out) ⌝ }
+    ensures { λ r. ⌜ Says number count (now (out .entry)) (now (out .exit)) r ⌝ }
+{
+    if number == 0 {
+        return count;
+    }
+    put_refusal(number, out)
+}
+
+fn joined(volatile: Memory, permanent: Memory, level: u8, error: u8) -> State
+    ensures { λ r. ⌜ r ≡ stateWith volatile permanent level error ⌝ }
+{
+    State {
+        volatile,
+        permanent,
+        level,
+        error,
+    }
+}
+
+// Whole lines from the start of a block on, while there is room for an answer.
+pub fn run_lines(s: State, block: &[u8], out: &mut [u8]) -> Ran
+    requires { ⌜ Fine s ⌝ }
+    requires { ⌜ bufferLimit ≤ length (now out) ⌝ }
+    ensures { λ r. ⌜ Runs s (now (block .entry)) (now (out .entry)) (now (out .exit)) r ⌝ }
+{
+    let mut volatile = s.volatile;
+    let mut permanent = s.permanent;
+    let mut level = s.level;
+    let mut error = s.error;
+    let mut used = 0;
+    let mut written = 0;
+    while ROOM <= out.len() - written {
+        let end = line_end(block, used);
+        if end == block.len() {
+            break;
+        }
+        let line = &block[used..end];
+        let step = decide(volatile, level, error, line, &mut out[written..]);
+        let decision = step.decision;
+        written += say(decision.number, step.length, &mut out[written..]);
+        used = end + 1;
+        let deed = decision.deed;
+        match deed {
+            Deed::Keep => {}
+            Deed::SetError(n) => error = n,
+            Deed::Put(place) => volatile = put_at(volatile, place, decision.system),
+            Deed::Remove(place) => volatile = removed_at(volatile, place),
+            Deed::Enable(e) => volatile.enabled = e,
+            Deed::SetLevel(n) => level = n,
+            Deed::Save => permanent = volatile,
+            Deed::Restore => volatile = permanent,
+            Deed::Reset => volatile = factory_memory(),
+        }
+    }
+    let state = joined(volatile, permanent, level, error);
+    Ran {
+        state,
+        used,
+        written,
+    }
+}
