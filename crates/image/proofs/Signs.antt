@@ -4,21 +4,12 @@ use mathlib.Core.Path.{_≡_, refl, sym}
 use mathlib.Core.Bool.{true, false, false≢true}
 use native.Mathlib.Numerals.{add-one}
 use native.Mathlib.Omega.{arith}
-use lib.Dec.{T}
 use lib.IntN.{ℤ, pos, negsuc, negℤ, natAbs}
-use lib.Signed.{ltZ, nonNeg}
+use lib.Signed.{ltZ}
 use borrow.Author.Tests.{ltb-true, eq-eqb, ne-eqb}
 use Rattle.model.specs.Image.{signedCode, signedOf}
 
 -- ---- below zero, and not
-
-pub below : (z : ℤ) → ltZ z (pos 0) ≡ true → T (nonNeg (negℤ z))
-below (pos n) t = let h = ltb-true n 0 t in absurd (omega arith)
-below (negsuc n) t = tt
-
-pub above : (z : ℤ) → ltZ z (pos 0) ≡ false → T (nonNeg z)
-above (pos n) t = tt
-above (negsuc n) t = absurd (false≢true (sym t))
 
 pub code-below : (z : ℤ) → ltZ z (pos 0) ≡ true → (2 * natAbs z - 1 ≡ signedCode z) × (0 < natAbs z)
 code-below (pos n) t = let h = ltb-true n 0 t in absurd (omega arith)

@@ -1,9 +1,11 @@
 // Types and signed numbers, as whole numbers of the image.
 use model::Group;
 use model::Kind;
+use signed::magnitude;
+use signed::negated;
 ghost use mathlib.Core.Path.{_≡_};
 ghost use Prim.Native.Nat.{_<_, _^_};
-ghost use lib.IntN.{natAbs, negℤ};
+ghost use lib.IntN.{natAbs};
 ghost use Rattle.model.specs.Image.{signedCode, signedOf};
 ghost use Rattle.image.specs.Codes.{codedAs, kindCoded};
 
@@ -26,23 +28,16 @@ pub fn kind_coded(code: u64) -> Coded
     }
 }
 
-fn negated(z: i64) -> i64
-    requires { ⌜ natAbs z < 2 ^ 63 ⌝ }
-    ensures { λ r. ⌜ r ≡ negℤ z ⌝ }
-{
-    -z
-}
-
 // Twice the number, or one less than twice what it is below zero.
 pub fn signed_code(z: i64) -> u64
     requires { ⌜ natAbs z < 2 ^ 62 ⌝ }
     ensures { λ r. ⌜ r ≡ signedCode z ⌝ }
 {
+    let m = magnitude(z);
     if z < 0 {
-        let m = negated(z);
-        return 2 * (m as u64) - 1;
+        return 2 * m - 1;
     }
-    2 * (z as u64)
+    2 * m
 }
 
 pub fn signed_of(n: u64) -> i64

@@ -1,4 +1,5 @@
 // Whole numbers in groups of seven bits, lowest first, each but the last with 128 added.
+use signed::wide;
 ghost use mathlib.Core.Path.{_≡_};
 ghost use Prim.Native.Nat.{_+_, _≤_};
 ghost use lib.ListN.{length, take, drop};
@@ -11,12 +12,6 @@ ghost use Rattle.image.specs.Views.{numberRead, numberUpTo, numbersRead}
 pub enum Number {
     Read(u64, usize),
     Refused,
-}
-
-fn wide(b: u8) -> u64
-    ensures { λ r. ⌜ r ≡ b ⌝ }
-{
-    b as u64
 }
 
 fn up_to(value: u64, next: usize, most: u64) -> Number

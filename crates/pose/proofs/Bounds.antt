@@ -2,10 +2,11 @@
 use Prim.Native.Nat.{ℕ, _+_, _≤_}
 use native.Mathlib.Omega.{arith}
 use lib.IntN.{natAbs}
+use Rattle.signed.proofs.Sizes.{natAbs-neg}
 use Rattle.model.specs.Pose.{Pose, coord, turned, plus, origin, followed}
 use Rattle.pose.specs.Types.{Dir, Px, Nx, Py, Ny, Pz, Nz, Rot, Vec3}
 use Rattle.pose.specs.Poses.{Within}
-use Rattle.pose.proofs.Signed.{natAbs-neg, natAbs-add}
+use Rattle.pose.proofs.Sums.{natAbs-add}
 
 pub within-origin : (h : ℕ) → Within h origin
 within-origin h = record { x-within = omega arith; y-within = omega arith; z-within = omega arith }

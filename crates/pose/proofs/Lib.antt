@@ -1,4 +1,4 @@
-pub mod Signed
+pub mod Sums
 pub mod Upto
 pub mod Turning
 pub mod Bounds

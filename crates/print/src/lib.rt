@@ -1,11 +1,11 @@
 // Texts and numbers written into a lent part, in place and in one pass. A writer takes the place where its text is to begin and returns the place
 // after it, so that writers follow on one another; what they leave in the whole part is `Wrote` of specs/.
 use model::Name;
-ghost use mathlib.Core.Path.{_≡_};
+use signed::magnitude;
 ghost use mathlib.Core.List.{_∷_, []};
 ghost use Prim.Native.Nat.{_+_, _≤_, _<_, _^_};
 ghost use lib.ListN.{length};
-ghost use lib.IntN.{natAbs, negℤ};
+ghost use lib.IntN.{natAbs};
 ghost use Rattle.model.specs.Limits.{nameLimit};
 ghost use Rattle.model.specs.Stored.{bytesOf};
 ghost use Rattle.model.specs.Reply.{lastDigits, decimal, value, degrees};
@@ -105,25 +105,6 @@ fn put_millionths(out: &mut [u8], at: usize, m: u64) -> usize
     let i = put_decimal(out, at, m / 1000000);
     let j = put_byte(out, i, b'.');
     put_six(out, j, m % 1000000)
-}
-
-fn negated(z: i64) -> i64
-    requires { ⌜ natAbs z < 2 ^ 63 ⌝ }
-    ensures { λ r. ⌜ r ≡ negℤ z ⌝ }
-{
-    -z
-}
-
-// Without its sign.
-fn magnitude(z: i64) -> u64
-    requires { ⌜ natAbs z < 2 ^ 63 ⌝ }
-    ensures { λ r. ⌜ r ≡ natAbs z ⌝ }
-{
-    if z < 0 {
-        let m = negated(z);
-        return m as u64;
-    }
-    z as u64
 }
 
 // z millionths with six decimals, and a minus only below zero.

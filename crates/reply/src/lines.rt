@@ -1,10 +1,10 @@
 // The lines of the lists. A further line ends the line before it, and is written from the front of the part that it is lent.
-use crate::texts::group_of;
 use crate::texts::put_by_group;
 use crate::texts::put_end;
 use crate::texts::put_fixed_name;
 use crate::texts::put_kind;
 use crate::texts::put_six_values;
+use memory::kinds::group_of;
 use model::Group;
 use model::Name;
 use model::System;

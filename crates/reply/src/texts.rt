@@ -6,7 +6,6 @@ use model::Vec3;
 use print::put_degrees;
 use print::put_text;
 use print::put_value;
-ghost use mathlib.Core.Path.{_≡_};
 ghost use mathlib.Core.List.{_++_};
 ghost use Prim.Native.Nat.{_+_, _≤_};
 ghost use lib.ListN.{length};
@@ -16,18 +15,6 @@ ghost use Rattle.model.specs.Reply.{value, degrees, sixValues};
 ghost use Rattle.print.specs.Over.{Wrote};
 ghost use Rattle.pose.specs.Poses.{Within, Quarters, reach};
 ghost use Rattle.reply.specs.Values.{byGroup, axisText, offsetsText, turnsText};
-
-pub fn group_of(k: Kind) -> Group
-    ensures { λ r. ⌜ r ≡ ofKind k .group ⌝ }
-{
-    match k {
-        Kind::Ksd => Group::Operating,
-        Kind::Kst => Group::Operating,
-        Kind::Ksw => Group::Operating,
-        Kind::Ksb => Group::Orientational,
-        Kind::Kld => Group::Levelling,
-    }
-}
 
 // A user system's type.
 pub fn put_kind(out: &mut [u8], at: usize, k: Kind) -> usize

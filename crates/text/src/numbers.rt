@@ -1,6 +1,7 @@
 // A number, byte by byte: an optional minus, digits, and perhaps a point and decimals, into whole millionths.
 use super::values::signed;
 use super::words::between;
+use signed::wide;
 ghost use mathlib.Core.Path.{_≡_};
 ghost use Rattle.text.specs.Numbers.{part, first, stepped, Good, wrong, valued, optionOf};
 
@@ -28,12 +29,6 @@ pub enum Num {
 pub enum Value {
     Millionths(i64),
     Malformed,
-}
-
-fn wide(b: u8) -> u64
-    ensures { λ r. ⌜ r ≡ b ⌝ }
-{
-    b as u64
 }
 
 fn first_digit(minus: bool, b: u8) -> Num

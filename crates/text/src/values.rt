@@ -1,8 +1,9 @@
 // Values in whole millionths: of a millimetre for X Y Z, of a degree for U V W.
+use signed::magnitude;
+use signed::negated;
 ghost use mathlib.Core.Path.{_≡_};
 ghost use mathlib.Core.Bool.{true};
 ghost use Prim.Native.Nat.{_<_, _^_};
-ghost use lib.IntN.{natAbs};
 ghost use Rattle.model.specs.Words.{offset?, angle?, quarters};
 ghost use Rattle.text.specs.Values.{withSign};
 
@@ -17,19 +18,9 @@ pub(crate) fn signed(minus: bool, v: u64) -> i64
 {
     let n = v as i64;
     if minus {
-        return -n;
+        return negated(n);
     }
     n
-}
-
-pub fn magnitude(z: i64) -> u64
-    ensures { λ r. ⌜ r ≡ natAbs z ⌝ }
-{
-    if z < 0 {
-        let m = -(z + 1);
-        return m as u64 + 1;
-    }
-    z as u64
 }
 
 pub fn offset_fine(z: i64) -> bool

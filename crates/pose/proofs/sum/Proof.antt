@@ -5,8 +5,9 @@ use native.Mathlib.Omega.{arith}
 use lib.IntN.{ℤ, natAbs, _+ℤ_}
 use mir.Syntax.{w64}
 use mir.Val.{SFits}
+use Rattle.signed.proofs.Sizes.{read}
 use Rattle.pose.specs.Poses.{reach}
-use Rattle.pose.proofs.Signed.{read, add-fits, add-reads}
+use Rattle.pose.proofs.Sums.{add-fits, add-reads}
 use Rattle.pose.proofs.sum.Statement.{statement}
 use Rattle.pose.proofs.sum.Tie as tie
 

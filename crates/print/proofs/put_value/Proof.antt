@@ -29,7 +29,7 @@ above c =
     rw (size (c .before)) (value-above (s .args .z) t)
 
 magnitude-requires : tie.Need-magnitude-requires
-magnitude-requires c κs = rw (toZ-ofZ (c .before .fits .z)) (omega (arith, c .before .pre .0))
+magnitude-requires c κs = search needs
 
 put-byte-requires : tie.Need-put-byte-requires
 put-byte-requires c κs = omega (arith, ap length (below (c .before)))

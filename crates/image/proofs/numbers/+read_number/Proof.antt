@@ -14,7 +14,7 @@ use Rattle.image.proofs.numbers.read_number.Reads as read-number
 use Rattle.image.proofs.numbers.read_number.Kinds as read-number-kinds
 use Rattle.image.proofs.numbers.+read_number.Lts-read_number as read-number-lts
 use Rattle.image.proofs.numbers.up_to.Reads as up-to-reads
-use Rattle.image.proofs.numbers.wide.Reads as wide-reads
+use Rattle.signed.proofs.wide.Reads as wide-reads
 use Rattle.image.proofs.numbers.+read_number.{statement}
 use Rattle.image.proofs.numbers.+read_number.Tie.{close}
 

@@ -1,5 +1,5 @@
 use native.Mathlib.Omega.{arith}
-use Rattle.pose.proofs.Signed.{back}
+use Rattle.signed.proofs.Sizes.{back}
 use borrow.Author.Needs.{needs}
 use Rattle.image.proofs.systems.offsets_of.Statement.{statement}
 use Rattle.image.proofs.systems.offsets_of.Tie as tie

@@ -6,8 +6,8 @@ use lib.IntN.{ℤ, pos, negℤ, natAbs, _-ℤ_}
 use mir.Syntax.{w64}
 use mir.Val.{SFits}
 use borrow.Author.Needs.{needs}
+use Rattle.signed.proofs.Sizes.{read, back, neg-fits, neg-reads}
 use Rattle.pose.specs.Poses.{widest}
-use Rattle.pose.proofs.Signed.{read, back, neg-fits, neg-reads}
 use Rattle.pose.proofs.rotation.coord_of.Statement.{statement}
 use Rattle.pose.proofs.rotation.coord_of.Tie as tie
 

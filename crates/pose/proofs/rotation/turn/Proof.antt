@@ -1,7 +1,8 @@
 -- `pose::rotation::turn` meets its contract: each coordinate is read back as `coord_of` gave it.
 use mathlib.Core.Path.{_∙_}
-use borrow.Author.Needs.{needs}
-use Rattle.pose.proofs.Signed.{result-reads}
+use mir.Syntax.{w64}
+use mir.Facts.{toZ-ofZ}
+use borrow.Author.Needs.{needs, sfits-of}
 use Rattle.pose.proofs.rotation.turn.Statement.{statement}
 use Rattle.pose.proofs.rotation.turn.Tie as tie
 
@@ -20,9 +21,9 @@ returns c =
     let c1 = c2 .before in
     λ i.
     record {
-      x = (result-reads (c1 .coord-of .result) (c1 .coord-of .ok) ∙ c1 .coord-of .ensures) i;
-      y = (result-reads (c2 .coord-of2 .result) (c2 .coord-of2 .ok) ∙ c2 .coord-of2 .ensures) i;
-      z = (result-reads (c .coord-of3 .result) (c .coord-of3 .ok) ∙ c .coord-of3 .ensures) i;
+      x = (toZ-ofZ {w = w64} (sfits-of (c1 .coord-of .ok)) ∙ c1 .coord-of .ensures) i;
+      y = (toZ-ofZ {w = w64} (sfits-of (c2 .coord-of2 .ok)) ∙ c2 .coord-of2 .ensures) i;
+      z = (toZ-ofZ {w = w64} (sfits-of (c .coord-of3 .ok)) ∙ c .coord-of3 .ensures) i;
     }
 
 pub turn-spec : {M : Type 1} → statement M

@@ -3,7 +3,7 @@ use native.Mathlib.Omega.{arith}
 use mir.Syntax.{w64}
 use mir.Val.{toZ, ofZ}
 use Rattle.print.proofs.Laws.{wrote-then}
-use Rattle.pose.proofs.Signed.{back}
+use Rattle.signed.proofs.Sizes.{back}
 use Rattle.reply.specs.Values.{offsetsText}
 use Rattle.reply.proofs.ValueLaws.{length-offsets}
 use borrow.Author.Needs.{needs}

@@ -3,8 +3,9 @@ use native.Mathlib.Omega.{arith}
 use borrow.Author.Needs.{needs}
 use lib.IntN.{natAbs}
 use mir.Facts.{toZ-ofZ}
+use Rattle.signed.proofs.Signs.{sign-under, sign-over}
 use Rattle.model.specs.Words.{quarters}
-use Rattle.text.proofs.ValueLaws.{sign-under, sign-over, angle-small}
+use Rattle.text.proofs.ValueLaws.{angle-small}
 use Rattle.text.proofs.values.quarter_turns.Statement.{statement}
 use Rattle.text.proofs.values.quarter_turns.Tie as tie
 

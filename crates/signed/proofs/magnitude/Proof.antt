@@ -5,9 +5,9 @@ use borrow.Author.Needs.{needs}
 use lib.IntN.{pos}
 use lib.Signed.{ltZ}
 use mir.Facts.{toZ-ofZ}
-use Rattle.text.proofs.ValueLaws.{magnitude-fits, up-fits, down-fits, down-read, mag-up, sign-over}
-use Rattle.text.proofs.values.magnitude.Statement.{statement}
-use Rattle.text.proofs.values.magnitude.Tie as tie
+use Rattle.signed.proofs.Signs.{magnitude-fits, up-fits, down-fits, down-read, mag-up, sign-over}
+use Rattle.signed.proofs.magnitude.Statement.{statement}
+use Rattle.signed.proofs.magnitude.Tie as tie
 
 under : (c : tie.Then1) → ltZ (c .before .args .z) (pos 0) ≡ true
 under c = rw (toZ-ofZ (c .before .fits .z)) at (c .if1 .taken)

@@ -1,6 +1,6 @@
-use Rattle.pose.proofs.Signed.{neg-fits, neg-reads}
-use Rattle.image.proofs.codes.negated.Statement.{statement}
-use Rattle.image.proofs.codes.negated.Tie as tie
+use Rattle.signed.proofs.Sizes.{neg-fits, neg-reads}
+use Rattle.signed.proofs.negated.Statement.{statement}
+use Rattle.signed.proofs.negated.Tie as tie
 
 sub-result : tie.Need-sub-result
 sub-result c = neg-fits (c .args .z) (c .pre)
