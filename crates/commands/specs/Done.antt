@@ -16,7 +16,7 @@ use Rattle.commands.specs.declared.changed.Decision.{Decision}
 use Rattle.commands.specs.Given.{Given, given}
 use lib.ListN.{length}
 
--- the state once it is done; x is the system that is put
+-- [Commands; Errors, end] the state once it is done; x is the system that is put
 unfoldable pub done : Deed → System → State → State
 done Keep x st = st
 done (SetError n) x st = withError st n
@@ -28,7 +28,7 @@ done Save x st = record { volatile = st .volatile; permanent = st .volatile; lev
 done Restore x st = withVolatile st (st .permanent)
 done Reset x st = withVolatile st factory
 
--- its place is one of the stored memory's, or a free one
+-- [Memory 1] its place is one of the stored memory's, or a free one
 unfoldable pub Fits : Deed → StoredMemory → Type 0
 Fits Keep m = Unit {0}
 Fits (SetError n) m = Unit {0}
