@@ -11,8 +11,8 @@ use Rattle.model.specs.Limits.{maxSystems, offsetLimit}
 use Rattle.model.specs.Pose.{followed, rotOf}
 use Rattle.model.specs.Memory.{System, systemAt, blank}
 use Rattle.model.specs.Chain.{predOf, steps, ownPose, poseOver, resultant}
-use Rattle.model.proofs.Hops.{ring-free, pred-in-range}
-use Rattle.model.proofs.Steps.{Ends, steps-zero, steps-within, steps-pred, resultant-zero, resultant-pred}
+use Rattle.model.proofs.Chains.Hops.{ring-free, pred-in-range}
+use Rattle.model.proofs.Chains.Steps.{Ends, steps-zero, steps-within, steps-pred, resultant-zero, resultant-pred}
 use Rattle.pose.specs.Poses.{Within, reach}
 use Rattle.pose.proofs.Bounds.{within-origin, within-more, within-followed}
 use Rattle.chains.specs.Frames.{frame, framed, offsetAt, turnsAt}

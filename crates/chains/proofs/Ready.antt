@@ -14,7 +14,7 @@ use Rattle.model.specs.Words.{legalName, reserved, offset?}
 use Rattle.model.specs.Memory.{System, Memory, systemAt, blank}
 use Rattle.model.specs.WellFormed.{memoryFine, offsetsFine, turnsFine}
 use Rattle.model.proofs.Basics.{and-split}
-use Rattle.model.proofs.Fine.{Systems, ownFine, fine-of, preds-within, blank-beyond}
+use Rattle.model.proofs.Memories.Fine.{Systems, ownFine, fine-of, preds-within, blank-beyond}
 use Rattle.pose.specs.Poses.{Within}
 use Rattle.pose.proofs.Bounds.{within-origin}
 use Rattle.chains.specs.Flat.{predsOf}

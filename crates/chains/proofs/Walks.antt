@@ -13,7 +13,7 @@ use Rattle.model.specs.Lists.{any, table, least}
 use Rattle.model.specs.Memory.{System, systemAt}
 use Rattle.model.specs.Chain.{predOf, hop, steps, chain, onChain, noRing}
 use Rattle.model.proofs.Basics.{either, least-now, least-later}
-use Rattle.model.proofs.Hops.{hop-zero, ring-free, ring-free-from}
+use Rattle.model.proofs.Chains.Hops.{hop-zero, ring-free, ring-free-from}
 use Rattle.chains.specs.Flat.{linkedTo, linkedBy}
 
 -- ---- one link

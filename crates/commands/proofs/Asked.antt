@@ -14,7 +14,7 @@ use Rattle.model.specs.Lists.{same}
 use Rattle.model.specs.Memory.{System, Memory, State, Ref, refOr, systemAt, isUser, named}
 use Rattle.model.specs.Use.{nameInUse}
 use Rattle.model.specs.Refusals.{locked, wrongPred, otherType, atOrBefore, noRoom}
-use Rattle.model.proofs.Named.{named-place}
+use Rattle.model.proofs.Memories.Named.{named-place}
 use Rattle.chains.specs.Flat.{predsOf, linkedBy, memoryBy}
 use Rattle.chains.proofs.Same.{links-on-chain, links-in-use}
 use Rattle.memory.specs.declared.find.Found.{Found}

@@ -19,7 +19,7 @@ use Rattle.model.specs.Refusals.{Rung, first, changeLadder, absent, noRoom}
 use Rattle.model.specs.Effects.{withVolatile, put, fresh, changed}
 use Rattle.model.specs.Stored.{systemOf, systemsOf, memoryOf, stateOf, nameShaped}
 use Rattle.model.proofs.Basics.{or-false}
-use Rattle.model.proofs.Named.{place-within, present-user}
+use Rattle.model.proofs.Memories.Named.{place-within, present-user}
 use Rattle.memory.specs.Put.{putAt}
 use Rattle.memory.proofs.ByName.{put-by-place}
 use Rattle.commands.specs.Given.{given, givenBy, accepts, refuses}

@@ -17,7 +17,7 @@ use Rattle.model.specs.Effects.{withError, next}
 use Rattle.model.specs.Reply.{listed, listing, resultantLine, reply}
 use Rattle.model.specs.Machine.{carriedOut, answered, refused}
 use Rattle.model.specs.Stored.{systemOf, systemsOf, memoryOf, stateOf}
-use Rattle.model.proofs.Named.{place-within, named-place}
+use Rattle.model.proofs.Memories.Named.{place-within, named-place}
 use Rattle.reply.specs.Reached.{refAt}
 use Rattle.memory.specs.declared.find.Found.the-variants.{User, Fixed, Absent}
 use Rattle.memory.specs.Found.{foundRef}

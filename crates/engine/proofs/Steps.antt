@@ -13,7 +13,7 @@ use Rattle.model.specs.Effects.{withError, next}
 use Rattle.model.specs.Reply.{listed, reply, decimal}
 use Rattle.model.specs.Ascii.{ascii}
 use Rattle.model.specs.Machine.{stepped, judged, carriedOut, answered, refused}
-use Rattle.model.proofs.Refusing.{step-fine}
+use Rattle.model.proofs.Ladder.Refusing.{step-fine}
 use Rattle.model.proofs.Basics.{either}
 use Rattle.commands.specs.Given.{given, givenBy}
 use Rattle.engine.specs.Fine.{ofGiven}

@@ -8,9 +8,9 @@ use Rattle.model.specs.declared.State.{State as StoredState}
 use Rattle.model.specs.WellFormed.{wellFormed}
 use Rattle.model.specs.Stored.{holds, shapeless, ofOutcome, ofBegun, memoryShaped, shaped, stateOf, viewOf, lineAnswer, imageAnswer, restartAnswer}
 use Rattle.model.proofs.Basics.{and-join, and-split, either}
-use Rattle.model.proofs.Fine.{state-of}
-use Rattle.model.proofs.Refusing.{step-ill}
-use Rattle.model.proofs.Exact.{other-numbers-exact}
+use Rattle.model.proofs.Memories.Fine.{state-of}
+use Rattle.model.proofs.Ladder.Refusing.{step-ill}
+use Rattle.model.proofs.Ladder.Exact.{other-numbers-exact}
 use Rattle.engine.specs.declared.answer.Stepped.{Stepped}
 use Rattle.engine.specs.Fine.{Fine, FineMemory, answeredOf}
 

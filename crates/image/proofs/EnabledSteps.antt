@@ -10,7 +10,7 @@ use Rattle.model.specs.declared.Enabled.{Enabled}
 use Rattle.model.specs.declared.OperatingPart.the-variants.{Single, Pair}
 use Rattle.model.specs.Lists.{joined}
 use Rattle.model.specs.Image.{give, whole, numbers, enabledBytes}
-use Rattle.model.proofs.Readers.{then, then-none}
+use Rattle.model.proofs.Image.Readers.{then, then-none}
 use Rattle.image.specs.Strict.{upTo, several, mostByte, enabledFrom, strictEnabled}
 
 -- ---- reading

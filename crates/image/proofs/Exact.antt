@@ -19,9 +19,9 @@ use Rattle.model.specs.Memory.{System, Memory}
 use Rattle.model.specs.WellFormed.{isKind, systemFine, operatingFine, enabledFine, memoryFine}
 use Rattle.model.specs.Image.{give, fail, edition, whole, numbers, systemBytes, enabledBytes, image, accepted}
 use Rattle.model.proofs.Basics.{true-false, and-split}
-use Rattle.model.proofs.Readers.{then, gave, one-read, nothing, passed, chosen}
-use Rattle.model.proofs.ImageLimits.{place-within, parts}
-use Rattle.model.proofs.Image.{reads-back, accepted-exactly}
+use Rattle.model.proofs.Image.Readers.{then, gave, one-read, nothing, passed, chosen}
+use Rattle.model.proofs.Image.Limits.{place-within, parts}
+use Rattle.model.proofs.Image.Exactly.{reads-back, accepted-exactly}
 use Rattle.image.specs.Strict.{upTo, repeated, several, mostByte, strictSystem, strictSystems, enabledFrom, strictEnabled, strictMemory, ended, strict}
 use Rattle.image.proofs.Shortest.{up-to-whole, whole-up-to}
 use Rattle.image.proofs.Several.{numbers-first, read-two, read-three, read-four, Told, numbers-several, listed}

@@ -16,7 +16,7 @@ use Rattle.model.specs.WellFormed.{systemFine, memoryFine}
 use Rattle.model.specs.Image.{edition, signedCode, numbers, systemBytes, enabledBytes, image}
 use Rattle.model.specs.Stored.{systemOf, systemsOf, memoryOf, memoryShaped}
 use Rattle.model.proofs.Basics.{all-at}
-use Rattle.model.proofs.ImageLimits.{system-within, parts}
+use Rattle.model.proofs.Image.Limits.{system-within, parts}
 use Rattle.memory.proofs.Laws.{getD-any, length-systems, system-at}
 use Rattle.memory.proofs.Shape.{shaped-count}
 use Rattle.image.proofs.Puts.{Left, left-all}

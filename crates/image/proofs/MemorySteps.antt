@@ -10,7 +10,7 @@ use borrow.Author.Tests.{eq-eqb, ne-eqb, le-leb, lt-leb}
 use Rattle.model.specs.declared.Enabled.{Enabled}
 use Rattle.model.specs.Memory.{System}
 use Rattle.model.specs.Image.{edition, give, fail}
-use Rattle.model.proofs.Readers.{then, then-none}
+use Rattle.model.proofs.Image.Readers.{then, then-none}
 use Rattle.image.specs.Strict.{several, mostByte, strictSystems, strictEnabled, strictMemory}
 
 module _ (bs : List ℕ) where

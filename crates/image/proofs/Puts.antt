@@ -10,7 +10,7 @@ use lib.Seq.{sets, length-sets, sets-eq, drop-cons, getD-take, length-take-le}
 use Rattle.model.specs.Machine.{written}
 use Rattle.model.specs.Lists.{joined}
 use Rattle.model.specs.Image.{whole, numbers}
-use Rattle.model.proofs.Wholes.{whole-last, whole-more}
+use Rattle.model.proofs.Image.Wholes.{whole-last, whole-more}
 use Rattle.image.specs.Put.{Put}
 
 -- a number, by its first group

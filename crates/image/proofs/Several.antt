@@ -12,7 +12,7 @@ use borrow.Author.Tests.{leb-true, le-leb}
 use Rattle.model.specs.Lists.{all, joined, table}
 use Rattle.model.specs.Image.{give, whole, numbers}
 use Rattle.model.proofs.Basics.{and-split}
-use Rattle.model.proofs.Readers.{then, gave, one-read}
+use Rattle.model.proofs.Image.Readers.{then, gave, one-read}
 use Rattle.image.specs.Strict.{upTo, repeated, several}
 use Rattle.image.proofs.Shortest.{up-to-whole, whole-up-to}
 

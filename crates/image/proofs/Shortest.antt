@@ -11,8 +11,8 @@ use lib.Dec.{ltb, leb}
 use borrow.Author.Tests.{lt-ltb, le-ltb, ltb-true, ltb-false, le-leb, leb-true, leb-false, lt-leb}
 use Rattle.model.specs.Image.{whole}
 use Rattle.model.proofs.Basics.{either, and-split}
-use Rattle.model.proofs.Wholes.{whole-last, whole-more, by-groups}
-use Rattle.model.proofs.Readers.{passed, nothing, one-read}
+use Rattle.model.proofs.Image.Wholes.{whole-last, whole-more, by-groups}
+use Rattle.model.proofs.Image.Readers.{passed, nothing, one-read}
 use Rattle.image.specs.Strict.{above, short, within, upTo}
 
 -- ---- the first byte

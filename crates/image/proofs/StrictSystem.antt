@@ -19,9 +19,9 @@ use Rattle.model.specs.Memory.{System}
 use Rattle.model.specs.WellFormed.{systemFine}
 use Rattle.model.specs.Image.{give, fail, numbers, signedCode, signedOf, kindOf, readBytes, systemBytes}
 use Rattle.model.proofs.Basics.{either}
-use Rattle.model.proofs.Readers.{then, gave, one-read, nothing, passed}
-use Rattle.model.proofs.ImageLimits.{code-within, system-within}
-use Rattle.model.proofs.Image.{kind-back, name-back, signed-back}
+use Rattle.model.proofs.Image.Readers.{then, gave, one-read, nothing, passed}
+use Rattle.model.proofs.Image.Limits.{code-within, system-within}
+use Rattle.model.proofs.Image.Exactly.{kind-back, name-back, signed-back}
 use Rattle.image.specs.Strict.{several, mostByte, mostOffset, strictName, systemFrom, strictPlaced, strictSystem}
 use Rattle.image.proofs.Several.{read-two, read-three, read-four, Told, numbers-several, listed}
 

@@ -13,7 +13,7 @@ use Rattle.model.specs.declared.Kind.{Kind}
 use Rattle.model.specs.declared.Group.{Group}
 use Rattle.model.specs.Kinds.{kinds, ofKind}
 use Rattle.model.specs.Image.{give, fail, kindOf}
-use Rattle.model.proofs.Readers.{then, then-none, nothing, one-read}
+use Rattle.model.proofs.Image.Readers.{then, then-none, nothing, one-read}
 use Rattle.model.proofs.Basics.{either}
 use Rattle.image.specs.Codes.{kindCoded}
 use Rattle.image.specs.Strict.{several, mostByte, mostOffset, strictName, systemFrom, strictPlaced, strictSystem}

@@ -11,7 +11,7 @@ use Rattle.model.specs.Refusals.{short}
 use Rattle.model.specs.Image.{image, accepted}
 use Rattle.model.specs.Machine.{stepped, writeImage, startImage, startFactory, began, answered, refused}
 use Rattle.model.specs.Stored.{View, holds, ofOutcome, ofBegun, memoryShaped, shaped, stateOf, memoryOf, viewOf, lineAnswer, imageAnswer}
-use Rattle.model.proofs.Exact.{start-none, start-some}
+use Rattle.model.proofs.Ladder.Exact.{start-none, start-some}
 use Rattle.image.specs.declared.ImageRead.{ImageRead}
 use Rattle.image.specs.Accepted.{Answers}
 use Rattle.engine.specs.Fine.{Fine}

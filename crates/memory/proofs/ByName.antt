@@ -5,7 +5,7 @@ use mathlib.Core.Bool.{true}
 use mathlib.Core.List.{List}
 use Rattle.model.specs.Memory.{System, Memory, systemAt, placeNamed, isUser, named, userNamed}
 use Rattle.model.specs.Effects.{put, linked, withPred, withName}
-use Rattle.model.proofs.Named.{user-place, place-name, named-place}
+use Rattle.model.proofs.Memories.Named.{user-place, place-name, named-place}
 use Rattle.memory.specs.Put.{putAt}
 
 -- a system is put at the place that its name has

@@ -13,7 +13,7 @@ use Rattle.model.specs.declared.Memory.{Memory as StoredMemory}
 use Rattle.model.specs.Memory.{System, blank, systemAt}
 use Rattle.model.specs.Effects.{mendedSystem}
 use Rattle.model.specs.Stored.{systemOf, systemsOf}
-use Rattle.model.proofs.Removal.{old, old-low, old-high, without, without-length, removed-at}
+use Rattle.model.proofs.Edits.Removal.{old, old-low, old-high, without, without-length, removed-at}
 use Rattle.chains.proofs.Copies.{unset}
 use Rattle.memory.specs.Put.{keptAt}
 use Rattle.memory.proofs.Laws.{length-systems, system-at}

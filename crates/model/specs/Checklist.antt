@@ -1,8 +1,8 @@
 -- The field engineer's checklist, from the owners' page of demands, as statements about the state after any history: a start, and any list of calls.
 -- The statements only; they are proved in proofs/.
-use Prim.Native.Nat.{_≤_, _<_}
+use Prim.Native.Nat.{_≤_}
 use mathlib.Core.Path.{_≡_}
-use Rattle.model.specs.Base.{ℕ, zero, suc, List, [], _∷_, _++_, map, Bool, true, false, _||_, some, length, take}
+use Rattle.model.specs.Base.{ℕ, zero, suc, List, [], _∷_, _++_, map, Bool, true, false, _||_, some, eqb, length, take}
 use Rattle.model.specs.Ascii.{ascii}
 use Rattle.model.specs.Lists.{any, same, oneOf}
 use Rattle.model.specs.Limits.{maxSystems, bufferLimit}
@@ -16,7 +16,7 @@ use Rattle.model.specs.Refusals.{ladder}
 use Rattle.model.specs.Reply.{listing, everySystem, enabledLine}
 use Rattle.model.specs.Machine.{Outcome, stepped, restart, writeImage, startImage}
 use Rattle.model.specs.Trace.{Call, Line, afterCalls, afterLines}
-use Rattle.model.specs.Claims.{applies}
+use Rattle.model.specs.Claims.{applies, triedBefore}
 use Rattle.model.specs.Demand.{Start, startState, noneTaken, Replies, Held, HeldPart, alone, pair, frames}
 
 -- ---- (1) KEN? shows one system, or one work and tool pair, for each group
@@ -93,11 +93,10 @@ underPart (pair w t) n = under w n || under t n
 unfoldable pub underEnabled : Memory → List ℕ → Bool
 underEnabled m n = underPart (frames m .operating) n || (under (frames m .orientational) n || under (frames m .levelling) n)
 
--- refused with a number up to 11, and with 11 where no smaller one applies; only the last error changes
+-- refused with 11 or a number that is tried before it, and with 11 where none of those applies; only the last error changes
 pub record HeldFast (st : State) (line b : List ℕ) : Type 0 where
-  pub least : 2 ≤ stepped st line b .number
-  pub greatest : stepped st line b .number ≤ 11
-  pub eleven : ((k : ℕ) → k < 11 → applies k (ladder st line b) ≡ false) → stepped st line b .number ≡ 11
+  pub refused : eqb (stepped st line b .number) 11 || triedBefore 11 (stepped st line b .number) ≡ true
+  pub eleven : ((k : ℕ) → triedBefore 11 k ≡ true → applies k (ladder st line b) ≡ false) → stepped st line b .number ≡ 11
   pub kept : stepped st line b .state ≡ withError st (stepped st line b .number)
 
 abbrev pub RefusedUnderEnabled : State → Type 0

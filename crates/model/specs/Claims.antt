@@ -1,18 +1,17 @@
 -- What is claimed of every call, in the owners' words: a refusal changes nothing, its number is exact, a line asks for nothing illegal, and a well-formed
--- state stays well formed. The statements only; proofs/ has the proofs (Refusing, Exact, Reading, Kept).
-use Prim.Native.Nat.{_≤_, _<_}
+-- state stays well formed. The statements only; they are proved in proofs/Ladder and proofs/Histories.
+use Prim.Native.Nat.{_≤_}
 use mathlib.Core.Path.{_≡_}
 use mathlib.Core.Logic.{_↔_}
-use Rattle.model.specs.Base.{ℕ, List, [], _∷_, Bool, true, false, not, _&&_, _||_, none, some, eqb, leb, ltb}
+use Rattle.model.specs.Base.{ℕ, List, [], _∷_, Bool, true, false, cond, not, _&&_, _||_, none, some, eqb}
 use Rattle.model.specs.Types.{Kind, Vec3, Turns}
-use Rattle.model.specs.Lists.{all, any}
-use Rattle.model.specs.Limits.{largestNumber}
+use Rattle.model.specs.Lists.{any}
 use Rattle.model.specs.Kinds.{ofKind}
 use Rattle.model.specs.Memory.{Memory, State, started, restarted}
 use Rattle.model.specs.Words.{legalName}
 use Rattle.model.specs.WellFormed.{offsetsFine, turnsFine, noOffset, wellFormed}
 use Rattle.model.specs.Request.{reading, asks, change, define, copy, setLevel}
-use Rattle.model.specs.Refusals.{Rung, short, ladder}
+use Rattle.model.specs.Refusals.{precedence, Rung, short, ladder}
 use Rattle.model.specs.Effects.{withError}
 use Rattle.model.specs.Image.{image, accepted}
 use Rattle.model.specs.Machine.{Outcome, refused, answered, began, stepped, restart, writeImage, startFactory, startImage}
@@ -44,23 +43,38 @@ pub record RefusalsChangeNothing : Type 0 where
 unfoldable pub applies : ℕ → List Rung → Bool
 applies n rungs = any (λ (r : Rung). eqb n (r .0) && r .1) rungs
 
--- [Errors, end] n applies, and no smaller number does
+-- [Errors, end] the numbers that stand before n in a list of them
+unfoldable pub before : ℕ → List ℕ → List ℕ
+before n [] = []
+before n (k ∷ ks) = cond (eqb k n) [] (k ∷ before n ks)
+
+-- [Errors, end] k is tried before n
+unfoldable pub triedBefore : ℕ → ℕ → Bool
+triedBefore n k = any (eqb k) (before n precedence)
+
+-- [Errors, end] n applies, and no number that is tried before it
 pub record FirstToApply (n : ℕ) (rungs : List Rung) : Type 0 where
   pub itself : applies n rungs ≡ true
-  pub none-before : (k : ℕ) → k < n → applies k rungs ≡ false
+  pub none-before : (k : ℕ) → triedBefore n k ≡ true → applies k rungs ≡ false
 
--- [Errors] every number is above the one before it; the first is above n
-unfoldable pub ascending : ℕ → List Rung → Bool
-ascending n [] = true
-ascending n (r ∷ rungs) = ltb n (r .0) && ascending (r .0) rungs
+-- [Errors, end] the rungs have their numbers from this list, in its order
+unfoldable pub inOrder : List ℕ → List Rung → Bool
+inOrder ns [] = true
+inOrder [] (r ∷ rungs) = false
+inOrder (n ∷ ns) (r ∷ rungs) = elim (eqb n (r .0)) [ true ↦ inOrder ns rungs | false ↦ inOrder ns (r ∷ rungs) ]
+
+-- [Errors] no number stands twice in the list
+unfoldable pub noneTwice : List ℕ → Bool
+noneTwice [] = true
+noneTwice (n ∷ ns) = not (any (eqb n) ns) && noneTwice ns
 
 -- [Errors, end; Memory 4] for every line and buffer: 1 exactly in a state that is not well formed; else the first number that applies, and only if one does
 pub record NumberExact (st : State) (line b : List ℕ) : Type 0 where
   pub one : stepped st line b .number ≡ 1 ↔ wellFormed st ≡ false
   pub others : wellFormed st ≡ true → (n : ℕ) → 2 ≤ n → stepped st line b .number ≡ n ↔ FirstToApply n (ladder st line b)
   pub accepted : wellFormed st ≡ true → stepped st line b .number ≡ 0 ↔ ((n : ℕ) → applies n (ladder st line b) ≡ false)
-  pub ascends : ascending 1 (ladder st line b) ≡ true
-  pub largest : all (λ (r : Rung). leb (r .0) largestNumber) (ladder st line b) ≡ true
+  pub ordered : inOrder precedence (ladder st line b) ≡ true
+  pub once : noneTwice precedence ≡ true
 
 -- [Image; Errors 1, 2, 14] the calls that are no lines: a restart meets only 1, writing only 1 and 2, a start only 14
 pub record OtherNumbersExact : Type 0 where

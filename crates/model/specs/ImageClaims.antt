@@ -1,4 +1,4 @@
--- What is claimed of the saved image (document 01, "Image" and error 14). The statements only; proofs/Image.antt and proofs/ImageLimits.antt prove them.
+-- What is claimed of the saved image (document 01, "Image" and error 14). The statements only; proofs/Image proves them.
 use Prim.Native.Nat.{_≤_}
 use mathlib.Core.Path.{_≡_}
 use mathlib.Core.Logic.{_↔_}

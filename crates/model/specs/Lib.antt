@@ -5,6 +5,7 @@ pub mod Base
 pub mod Types
 pub mod Ascii
 pub mod Lists
+pub mod Told
 pub mod Limits
 pub mod Kinds
 pub mod Pose

@@ -1,4 +1,4 @@
--- Document 01, "Commands", KRM: what a removal leaves of the other chains, by name, so whatever becomes of places. The statement only; proofs/Removed.antt proves it.
+-- Document 01, "Commands", KRM: what a removal leaves of the other chains, by name, so whatever becomes of places. The statement only; proofs/Edits proves it.
 use mathlib.Core.Path.{_≡_}
 use Rattle.model.specs.Base.{ℕ, suc, List, map, true, false, not, length}
 use Rattle.model.specs.Lists.{any, kept, same, there?}

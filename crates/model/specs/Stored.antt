@@ -1,9 +1,11 @@
 -- What a stored value stands for (document 01, "Empty programs": free is only what lies beyond the last user system or a name's last byte).
-use Rattle.model.specs.Base.{ℕ, List, [], map, Bool, true, false, _&&_, leb, take}
+use mathlib.Core.Path.{_≡_}
+use Rattle.model.specs.Base.{ℕ, List, [], map, Bool, true, false, _&&_, leb, take, replicate}
 use Rattle.model.specs.Types.{Name, StoredSystem, StoredMemory, StoredState}
 use Rattle.model.specs.Lists.{all}
 use Rattle.model.specs.Limits.{maxSystems, nameLimit}
 use Rattle.model.specs.Memory.{System, Memory, State}
+use Rattle.model.specs.WellFormed.{memoryFine, wellFormed}
 use Rattle.model.specs.Machine.{Outcome, Begun, stepped, restart, writeImage}
 
 -- ---- values
@@ -11,6 +13,10 @@ use Rattle.model.specs.Machine.{Outcome, Begun, stepped, restart, writeI
 -- the bytes of a stored name
 abbrev pub bytesOf : Name → List ℕ
 bytesOf n = take (n .len) (n .bytes)
+
+-- no name: where none is meant
+abbrev pub emptyName : Name
+emptyName = record { bytes = replicate nameLimit 0; len = 0 }
 
 abbrev pub systemOf : StoredSystem → System
 systemOf s = record { kind = s .kind; name = bytesOf (s .name); offset = s .offset; turns = s .turns; pred = s .pred }
@@ -34,6 +40,18 @@ memoryShaped m = leb (m .count) maxSystems && all nameShaped (take (m .count) (m
 
 unfoldable pub shaped : StoredState → Bool
 shaped s = memoryShaped (s .volatile) && memoryShaped (s .permanent)
+
+-- ---- shape, and well formed
+
+-- a stored memory that stands for a well-formed one
+pub record FineMemory (m : StoredMemory) : Type 0 where
+  pub shape : memoryShaped m ≡ true
+  pub formed : memoryFine (memoryOf m) ≡ true
+
+-- a stored state that stands for a well-formed one
+pub record FineState (s : StoredState) : Type 0 where
+  pub shape : shaped s ≡ true
+  pub formed : wellFormed (stateOf s) ≡ true
 
 -- ---- the calls over stored states
 

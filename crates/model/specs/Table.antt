@@ -1,5 +1,5 @@
 -- Document 01, "ksrun, and a table to hold": its cases as one statement, the worked example to the byte, and the five tempting points.
--- Every case goes through the machine's own step, from lines of bytes. The statements only; they are proved in proofs/Table.antt.
+-- Every case goes through the machine's own step, from lines of bytes. The statements only; they are proved in proofs/Table.
 use mathlib.Core.Path.{_≡_}
 use Prim.Native.String.{String}
 use Rattle.model.specs.Base.{ℕ, List, [], _∷_, _++_, take, replicate}

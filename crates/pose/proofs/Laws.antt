@@ -11,7 +11,7 @@ use Rattle.model.specs.Pose.{Pose, coord, turned, after, unturned, times, quart
 use Rattle.pose.specs.Types.{Dir, Px, Nx, Py, Ny, Pz, Nz, Rot, Turns, Vec3}
 use Rattle.pose.specs.Poses.{Rotation}
 use Rattle.pose.specs.Inverse.{undo, minus, inverse}
-use Rattle.pose.proofs.Upto.{upto}
+use Rattle.model.proofs.Upto.{upto}
 use Rattle.pose.proofs.Turning.{after-assoc, after-unturned, turned-after, turned-plus, turned-origin, plus-assoc, plus-origin, origin-plus, plus-minus, minus-plus}
 use Rattle.pose.proofs.Naming.{same-is, at-turns}
 

@@ -1,5 +1,4 @@
 pub mod Sums
-pub mod Upto
 pub mod Turning
 pub mod Bounds
 pub mod Naming

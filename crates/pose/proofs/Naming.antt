@@ -10,7 +10,7 @@ use Rattle.model.specs.Pose.{after, unturned, times, quarterX, quarterY, quarte
 use Rattle.pose.specs.Types.{Dir, Px, Nx, Py, Ny, Pz, Nz, Rot, Turns}
 use Rattle.pose.specs.Numbers.{axisAt, rotNumber, rotAt, tripleNumber}
 use Rattle.pose.specs.Poses.{Quarters}
-use Rattle.pose.proofs.Upto.{upto, at}
+use Rattle.model.proofs.Upto.{upto, at}
 use Rattle.pose.proofs.Turning.{after-assoc}
 
 -- ---- numbers of axes and rotations

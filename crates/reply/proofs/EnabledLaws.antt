@@ -12,7 +12,7 @@ use Rattle.model.specs.Stored.{systemOf, systemsOf, memoryOf}
 use Rattle.model.specs.Use.{operatingPlaces, inGroup, enabledRefs}
 use Rattle.model.specs.Request.{enabledOnes}
 use Rattle.model.specs.Reply.{listing, enabledLine, listed}
-use Rattle.model.proofs.Fine.{Placed, PartPlaced, fine-of}
+use Rattle.model.proofs.Memories.Fine.{Placed, PartPlaced, fine-of}
 use Rattle.chains.proofs.Copies.{unset}
 use Rattle.reply.specs.Types.{Kind, Operating, Orientational, Levelling, Enabled, OperatingPart, Single, Pair, StoredMemory}
 use Rattle.reply.specs.Lines.{Ready, further, enabledText}

@@ -19,7 +19,7 @@ use Rattle.model.specs.Machine.{Outcome, stepped, written}
 use Rattle.model.specs.Trace.{printed}
 use Rattle.model.specs.Stored.{holds, shapeless, Answered, ofOutcome, shaped, stateOf, viewOf}
 use Rattle.model.proofs.Basics.{either}
-use Rattle.model.proofs.Kept.{well-formed-kept}
+use Rattle.model.proofs.Histories.Kept.{well-formed-kept}
 use Rattle.engine.specs.declared.answer.Stepped.{Stepped}
 use Rattle.engine.specs.Fine.{Fine, answeredOf}
 use Rattle.engine.proofs.Views.{view-holds, view-shapeless}

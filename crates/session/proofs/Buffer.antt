@@ -10,7 +10,7 @@ use lib.Dec.{eqb, ltb}
 use lib.ListN.{length, take, drop, length-append, length-drop}
 use borrow.Author.Tests.{le-ltb, lt-ltb, eqb-true, eqb-false, ne-eqb}
 use Rattle.model.proofs.Basics.{either}
-use Rattle.model.proofs.Refusing.{step-fine, step-ill, judged-taken, judged-refused, refusals-change-nothing}
+use Rattle.model.proofs.Ladder.Refusing.{step-fine, step-ill, judged-taken, judged-refused, refusals-change-nothing}
 use Rattle.model.specs.Limits.{bufferLimit, lineLimit}
 use Rattle.model.specs.Memory.{State}
 use Rattle.model.specs.WellFormed.{wellFormed}

@@ -1,7 +1,7 @@
 use native.Mathlib.Omega.{arith}
 use Rattle.model.specs.Image.{image}
 use Rattle.model.specs.Stored.{memoryOf}
-use Rattle.model.proofs.ImageLimits.{fits}
+use Rattle.model.proofs.Image.Limits.{fits}
 use Rattle.image.proofs.Puts.{put-written}
 use borrow.Author.Needs.{needs}
 use Rattle.image.proofs.write.Statement.{statement}

@@ -3,7 +3,7 @@ use mathlib.Core.Path.{_≡_, sym, _∙_}
 use borrow.Author.Tests.{not-true, not-false, lt-ltb, le-ltb}
 use Rattle.model.specs.Refusals.{short}
 use Rattle.model.specs.Stored.{stateOf}
-use Rattle.model.proofs.Fine.{state-of}
+use Rattle.model.proofs.Memories.Fine.{state-of}
 use Rattle.engine.proofs.Views.{shape-parts, fine-of, ill-image}
 use Rattle.machine.proofs.Calls.{image-refused, image-taken}
 use borrow.Author.Needs.{needs}

@@ -5,7 +5,7 @@ use Rattle.model.specs.Memory.{systemAt}
 use Rattle.model.specs.Request.{Change, link}
 use Rattle.model.specs.Effects.{withVolatile, withPred, changed}
 use Rattle.model.specs.Stored.{bytesOf, memoryOf, stateOf}
-use Rattle.model.proofs.Named.{user-place}
+use Rattle.model.proofs.Memories.Named.{user-place}
 use Rattle.memory.specs.Put.{putAt}
 use Rattle.memory.proofs.ByName.{linked-by-place}
 use Rattle.commands.proofs.Carried.{decides-refused, decides-put, link-user, place-few}

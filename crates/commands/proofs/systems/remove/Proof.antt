@@ -3,7 +3,7 @@ use borrow.Author.Needs.{needs}
 use Rattle.model.specs.Request.{remove}
 use Rattle.model.specs.Effects.{withVolatile, removedAt, changed}
 use Rattle.model.specs.Stored.{systemsOf, memoryOf, stateOf}
-use Rattle.model.proofs.Named.{user-place, place-within}
+use Rattle.model.proofs.Memories.Named.{user-place, place-within}
 use Rattle.commands.specs.declared.changed.Deed.the-variants.{Remove}
 use Rattle.commands.specs.Done.{done, Fits}
 use Rattle.commands.proofs.Carried.{decides-refused, decides-accepted, remove-user}

@@ -6,7 +6,7 @@ use lib.ListN.{length}
 use Rattle.model.specs.Lists.{joined}
 use Rattle.model.specs.Image.{edition, numbers, systemBytes, enabledBytes, image}
 use Rattle.model.specs.Stored.{systemsOf, memoryOf}
-use Rattle.model.proofs.ImageLimits.{fits}
+use Rattle.model.proofs.Image.Limits.{fits}
 use Rattle.chains.proofs.Copies.{length-mapped}
 use Rattle.image.proofs.Puts.{Left, left-put, left-fits, left-done, put-long}
 use Rattle.image.proofs.MemoryPuts.{last-part, after-head, image-left}

@@ -5,7 +5,7 @@ use native.Mathlib.Omega.{arith}
 use lib.ListN.{length, length-set}
 use lib.Seq.{sets}
 use Rattle.model.specs.Image.{whole}
-use Rattle.model.proofs.Wholes.{less}
+use Rattle.model.proofs.Image.Wholes.{less}
 use Rattle.image.proofs.Puts.{sets-group, sets-group-last, length-group, length-group-last}
 use Rattle.image.proofs.numbers.write_number.Statement.{statement}
 use Rattle.image.proofs.numbers.write_number.Tie as tie

@@ -14,7 +14,7 @@ use Rattle.model.specs.Memory.{System, systemAt}
 use Rattle.model.specs.Effects.{mended, mendedEnabled, removedAt}
 use Rattle.model.specs.Stored.{systemOf, systemsOf, nameShaped, memoryShaped}
 use Rattle.model.proofs.Basics.{and-join}
-use Rattle.model.proofs.Removal.{without}
+use Rattle.model.proofs.Edits.Removal.{without}
 use Rattle.chains.proofs.Copies.{length-mapped, unset}
 use Rattle.memory.proofs.Laws.{length-systems}
 use Rattle.memory.proofs.Shape.{all-more, shaped-at, shaped-count}

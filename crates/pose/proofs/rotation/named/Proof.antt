@@ -7,7 +7,7 @@ use lib.ListN.{getD}
 use borrow.Author.Needs.{needs}
 use Rattle.model.specs.Pose.{times, rotOf, sameRot, triple}
 use Rattle.pose.specs.Numbers.{rotAt}
-use Rattle.pose.proofs.Upto.{at}
+use Rattle.model.proofs.Upto.{at}
 use Rattle.pose.proofs.Naming.{same-is, rotOf-number}
 use Rattle.pose.proofs.rotation.named.Statement.{statement}
 use Rattle.pose.proofs.rotation.named.Tie as tie

@@ -12,7 +12,7 @@ use Rattle.model.specs.Lists.{least}
 use Rattle.model.specs.Pose.{times, rotOf, sameRot, triple, shown}
 use Rattle.pose.specs.Types.{Turns}
 use Rattle.pose.specs.Numbers.{rotNumber, rotAt}
-use Rattle.pose.proofs.Upto.{at}
+use Rattle.model.proofs.Upto.{at}
 use Rattle.pose.proofs.Naming.{rotAt-number}
 use Rattle.pose.proofs.rotation.shown_of.Statement.{statement}
 use Rattle.pose.proofs.rotation.shown_of.Tie as tie

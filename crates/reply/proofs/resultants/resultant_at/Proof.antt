@@ -7,7 +7,7 @@ use lib.Seq.{length-take-le}
 use Rattle.model.specs.Memory.{fixedRef, userRef}
 use Rattle.model.specs.Reply.{listing, resultantLine}
 use Rattle.model.specs.Stored.{bytesOf, systemsOf, memoryOf}
-use Rattle.model.proofs.Fine.{fine-of}
+use Rattle.model.proofs.Memories.Fine.{fine-of}
 use Rattle.chains.specs.Walk.{walkOf}
 use Rattle.chains.proofs.Copies.{length-mapped, unset}
 use Rattle.print.proofs.Laws.{wrote-then}

@@ -1,0 +1,6 @@
+-- Chains/: links, chains and what is reached along them.
+pub mod Hops  -- links, and chains that end
+pub mod Steps  -- the steps, places and resultant of a chain that ends
+pub mod Carry  -- two lists of systems that are alike along a chain
+pub mod Relink  -- one system replaced, or one put last
+pub mod Frames  -- the enabled frames of two memories that are alike along every enabled chain

@@ -1,0 +1,9 @@
+-- Histories/: what holds after every list of calls.
+pub mod Kept  -- well-formedness
+pub mod Untaken  -- what no line changes that is not accepted
+pub mod Still  -- the enabled frames
+pub mod Demand3  -- demand 3
+pub mod Shown  -- the checklist: KEN? and KLN?
+pub mod Under  -- the checklist: a system under the enabled one
+pub mod Saved  -- the checklist: save, switch off, switch on, list
+pub mod Checklist  -- all four
