@@ -7,7 +7,7 @@ use mathlib.Core.Option.{some}
 use native.Mathlib.Decide.{decLt}
 use native.Mathlib.Nat.{mul-comm, mul-assoc, mul-one, add-mul, mod-one, mod-lt, mod-eq-of-lt, div-add-mod', add-mul-mod-self-right, mul-le-mul-right, pow-suc, one-le-pow}
 use native.Mathlib.Omega.{arith}
-use borrow.Author.Tests.{ne-eqb, le-leb, lt-ltb, le-ltb}
+use borrow.Author.Tests.{ne-eqb, le-leb}
 use lib.IntN.{ℤ, pos, negsuc, negℤ, natAbs}
 use lib.ListN.{length}
 use Rattle.model.specs.Limits.{wholeDigits, decimals, million}
@@ -15,6 +15,7 @@ use Rattle.model.specs.Lists.{all, pieces, ahead, joined}
 use Rattle.model.specs.Reply.{lastDigits, decimal, value}
 use Rattle.model.specs.Words.{digit, digits?, spelled, magnitude, positive, negative, number}
 use Rattle.model.proofs.Basics.{true-false, and-split, and-join}
+use Rattle.model.proofs.Digits.{length-digits, decimal-one, decimal-digits}
 use Rattle.text.specs.Numbers.{bound}
 use Rattle.text.proofs.NumberLaws.{weigh, Cut, whole, more, cut}
 use Rattle.text.proofs.NumberRange.{digit-is}
@@ -47,11 +48,6 @@ spell-last (suc k) a n =
     let m : n % 10 ^ suc k ≡ d * 10 ^ k + n % 10 ^ k = ap (λ (q : ℕ). n % q) (pow-suc 10 k) ∙ digit-more n (10 ^ k) (one-le-pow k 10 (omega arith)) in
     ap (λ (x : ℕ). spelled (10 * a + x) (lastDigits k n)) z ∙ spell-last k (10 * a + d) n ∙ omega (arith, weigh 0 a d k, m)
 
-length-last : (k n : ℕ) → length (lastDigits k n) ≡ k
-unfolding lastDigits
-length-last zero n = refl
-length-last (suc k) n = ap suc (length-last k n)
-
 digit-last : (n : ℕ) → digit (48 + n % 10) ≡ true
 digit-last n = rw (le-leb 48 (48 + n % 10) (omega arith), le-leb (48 + n % 10) 57 (omega arith))
 
@@ -62,7 +58,7 @@ all-last (suc k) n = and-join (digit-last (n / 10 ^ k)) (all-last k n)
 
 digits-last : (most k n : ℕ) → 1 ≤ k → k ≤ most → digits? most (lastDigits k n) ≡ true
 unfolding digits?
-digits-last most k n l h = rw (length-last k n, le-leb 1 k l, le-leb k most h) (all-last k n)
+digits-last most k n l h = rw (length-digits k n, le-leb 1 k l, le-leb k most h) (all-last k n)
 
 -- ---- the pieces of what is printed
 
@@ -103,14 +99,14 @@ module _ (k q r : ℕ) (l : 1 ≤ k) (h : k ≤ wholeDigits) (hq : q < 10 ^ k) (
         pieces-digits (lastDigits decimals r) (all-last decimals r),
         digits-last wholeDigits k q l h,
         digits-last decimals decimals r (omega arith) (omega arith),
-        length-last decimals r,
+        length-digits decimals r,
         spell-whole k q hq,
         spell-whole decimals r hr,
       ) (ap (λ (m : ℕ). some (q * million + m)) (mul-one r))
 
   number-positive : number text ≡ some (pos (q * million + r))
   unfolding positive
-  number-positive = number-digits (lastDigits k q) (46 ∷ lastDigits decimals r) (omega (arith, length-last k q)) (all-last k q) ∙ rw magnitude-printed
+  number-positive = number-digits (lastDigits k q) (46 ∷ lastDigits decimals r) (omega (arith, length-digits k q)) (all-last k q) ∙ rw magnitude-printed
 
   number-negative : number (45 ∷ text) ≡ some (negℤ (pos (q * million + r)))
   unfolding number negative
@@ -126,20 +122,16 @@ record Places (q : ℕ) : Type 0 where
   are : decimal q ≡ lastDigits count q
 
 places : (q : ℕ) → q < 10 ^ wholeDigits → Places q
-unfolding decimal
-places q h = ten (decLt q 10)
+places q h = ten (decLt q 10) (decLt q 100) (decLt q 1000)
   where
-    thousand : (10 ≤ q) → (100 ≤ q) → Dec (q < 1000) → Places q
-    thousand a b (yes l) = record { count = 3; some-digit = omega arith; enough = omega arith; below = l; are = rw (le-ltb q 10 a, le-ltb q 100 b, lt-ltb q 1000 l) }
-    thousand a b (no l) = record { count = 4; some-digit = omega arith; enough = omega arith; below = h; are = rw (le-ltb q 10 a, le-ltb q 100 b, le-ltb q 1000 (omega arith), lt-ltb q 10000 h) }
+    more : (k : ℕ) → suc k ≤ wholeDigits → 10 ^ k ≤ q → q < 10 ^ suc k → Places q
+    more k e a l = record { count = suc k; some-digit = omega arith; enough = e; below = l; are = decimal-digits k q a l }
 
-    hundred : (10 ≤ q) → Dec (q < 100) → Places q
-    hundred a (yes l) = record { count = 2; some-digit = omega arith; enough = omega arith; below = l; are = rw (le-ltb q 10 a, lt-ltb q 100 l) }
-    hundred a (no l) = thousand a (omega arith) (decLt q 1000)
-
-    ten : Dec (q < 10) → Places q
-    ten (yes l) = record { count = 1; some-digit = omega arith; enough = omega arith; below = l; are = rw (lt-ltb q 10 l) }
-    ten (no l) = hundred (omega arith) (decLt q 100)
+    ten : Dec (q < 10) → Dec (q < 100) → Dec (q < 1000) → Places q
+    ten (yes l) b c = record { count = 1; some-digit = omega arith; enough = omega arith; below = l; are = decimal-one q l }
+    ten (no a) (yes l) c = more 1 (omega arith) (omega arith) l
+    ten (no a) (no b) (yes l) = more 2 (omega arith) (omega arith) l
+    ten (no a) (no b) (no c) = more 3 (omega arith) (omega arith) h
 
 -- every value in whole millionths with at most four digits before the point
 pub number-value : (z : ℤ) → natAbs z < bound → number (value z) ≡ some z
