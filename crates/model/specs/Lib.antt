@@ -28,3 +28,4 @@ pub mod Checklist
 pub mod Removed
 pub mod Table
 pub mod Stored
+pub mod Histories
