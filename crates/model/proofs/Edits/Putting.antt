@@ -169,9 +169,9 @@ module _ (m : Memory) (fine : Fine m) (s : System) (own : ownFine s ≡ true) (p
 
   pub put-fine :
       (isUser m (s .name) ≡ true → (s .kind ≡ userNamed m (s .name) .kind) × Misses (m .systems) (placeNamed (m .systems) (s .name)) (s .pred)) →
-      noRoom m (s .name) ≡ false →
+      noRoom (m .systems) (placeNamed (m .systems) (s .name)) ≡ false →
       Fine (put m s)
-  unfolding put noRoom
+  unfolding put noRoom isUser
   put-fine over room = ⊎-elim in-place last (either (isUser m (s .name)))
     where
       in-place : isUser m (s .name) ≡ true → Fine (put m s)
