@@ -9,8 +9,8 @@ use lib.Dec.{leb, eqb}
 use lib.ListN.{length, take, length-map, length-take}
 use Rattle.model.specs.declared.Memory.{Memory as StoredMemory}
 use Rattle.model.specs.declared.State.{State as StoredState}
-use Rattle.model.specs.Lists.{all, between}
-use Rattle.model.specs.Limits.{largestNumber}
+use Rattle.model.specs.Lists.{all}
+use Rattle.model.specs.Refusals.{ofLine?}
 use Rattle.model.specs.Memory.{System}
 use Rattle.model.specs.Chain.{noRing}
 use Rattle.model.specs.WellFormed.{isKind, systemFine, namesDiffer, enabledFine, memoryFine, wellFormed}
@@ -66,9 +66,9 @@ rotate false f v = sym (and-false v)
 
 -- a stored state: its level and last error, and each memory
 pub state-judged : (s : StoredState) → shaped s && wellFormed (stateOf s)
-    ≡ (leb (s .level) 1 && (eqb (s .error) 0 || between 2 largestNumber (s .error)))
+    ≡ (leb (s .level) 1 && (eqb (s .error) 0 || ofLine? (s .error)))
     && ((memoryShaped (s .volatile) && memoryFine (memoryOf (s .volatile))) && (memoryShaped (s .permanent) && memoryFine (memoryOf (s .permanent))))
 unfolding shaped wellFormed
 state-judged s =
-    rw (and-assoc (memoryFine (memoryOf (s .volatile)) && memoryFine (memoryOf (s .permanent))) (leb (s .level) 1) (eqb (s .error) 0 || between 2 largestNumber (s .error)), and-swap (memoryShaped (s .volatile)) (memoryFine (memoryOf (s .volatile))) (memoryShaped (s .permanent)) (memoryFine (memoryOf (s .permanent))))
+    rw (and-assoc (memoryFine (memoryOf (s .volatile)) && memoryFine (memoryOf (s .permanent))) (leb (s .level) 1) (eqb (s .error) 0 || ofLine? (s .error)), and-swap (memoryShaped (s .volatile)) (memoryFine (memoryOf (s .volatile))) (memoryShaped (s .permanent)) (memoryFine (memoryOf (s .permanent))))
     (rotate (memoryShaped (s .volatile) && memoryShaped (s .permanent)) (memoryFine (memoryOf (s .volatile)) && memoryFine (memoryOf (s .permanent))) _)

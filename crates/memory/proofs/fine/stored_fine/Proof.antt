@@ -7,6 +7,9 @@ use Rattle.memory.proofs.Judged.{alone-and-link}
 use Rattle.memory.proofs.fine.stored_fine.Statement.{statement}
 use Rattle.memory.proofs.fine.stored_fine.Tie as tie
 
+cast-if1 : tie.Need-cast-if1
+cast-if1 c = search needs
+
 returns : tie.Need-returns
 unfolding storedFine
 returns c = λ l e. rw (lt-leb _ 16 (c .if1 .taken))
@@ -27,4 +30,4 @@ returns-3 c = λ l e. rw (le-leb _ 16 (c .before .before .before .if1 .left), al
 
 pub stored-fine-spec : {M : Type 1} → statement M
 stored-fine-spec =
-    tie.close (tie.spec returns alone-fine-requires returns-2 is-kind-requires returns-3)
+    tie.close (tie.spec cast-if1 returns alone-fine-requires returns-2 is-kind-requires returns-3)
