@@ -11,17 +11,12 @@ use Rattle.model.specs.declared.Memory.{Memory as StoredMemory}
 use Rattle.model.specs.declared.State.{State as StoredState}
 use Rattle.model.specs.Lists.{all}
 use Rattle.model.specs.Refusals.{ofLine?}
-use Rattle.model.specs.Memory.{System}
 use Rattle.model.specs.Chain.{noRing}
-use Rattle.model.specs.WellFormed.{isKind, systemFine, namesDiffer, enabledFine, memoryFine, wellFormed}
+use Rattle.model.specs.WellFormed.{systemFine, namesDiffer, enabledFine, memoryFine, wellFormed}
 use Rattle.model.specs.Stored.{systemOf, systemsOf, memoryOf, stateOf, nameShaped, memoryShaped, shaped}
 use Rattle.model.proofs.Basics.{and-assoc}
 use Rattle.text.proofs.Lists.{and-true, and-false}
-use Rattle.memory.specs.Fine.{aloneFine, storedFine, storedAllFine}
-
-pub alone-and-link : (l : List System) (s : System) → systemFine l s ≡ aloneFine s && isKind l (s .kind) (s .pred)
-unfolding systemFine aloneFine
-alone-and-link l s = refl
+use Rattle.memory.specs.Fine.{storedFine, storedAllFine}
 
 and-swap : (a b c d : Bool) → (a && b) && (c && d) ≡ (a && c) && (b && d)
 and-swap true true c d = refl

@@ -27,10 +27,10 @@ ghost use mathlib.Core.List.{List};
 ghost use Rattle.model.specs.Memory.{System as SystemOf};
 ghost use Rattle.model.specs.Chain.{noRing};
 ghost use Rattle.model.specs.Refusals.{ofLine?};
-ghost use Rattle.model.specs.WellFormed.{offsetsFine, noOffset, turnsFine, operatingFine, enabledFine, memoryFine, wellFormed};
+ghost use Rattle.model.specs.WellFormed.{offsetsFine, noOffset, turnsFine, ownFine, operatingFine, enabledFine, memoryFine, wellFormed};
 ghost use Rattle.model.specs.Stored.{systemOf, systemsOf, memoryOf, stateOf, memoryShaped, shaped};
 ghost use Rattle.memory.specs.Codes.{codesOf};
-ghost use Rattle.memory.specs.Fine.{aloneFine, storedFine, storedAllFine};
+ghost use Rattle.memory.specs.Fine.{storedFine, storedAllFine};
 
 fn offsets_fine(t: Vec3) -> bool
     ensures { λ r. ⌜ r ≡ offsetsFine t ⌝ }
@@ -50,9 +50,9 @@ fn turns_fine(t: Turns) -> bool
     (t.u <= 3) & (t.v <= 3) & (t.w <= 3)
 }
 
-// All that is asked of a system apart from its predecessor.
-fn alone_fine(s: System) -> bool
-    ensures { λ r. ⌜ r ≡ aloneFine (systemOf s) ⌝ }
+// What is asked of a system by itself.
+fn own_fine(s: System) -> bool
+    ensures { λ r. ⌜ r ≡ ownFine (systemOf s) ⌝ }
 {
     let name = s.name;
     if !name_fine(name) {
@@ -72,7 +72,7 @@ fn stored_fine(s: System, codes: &[u8]) -> bool
     if NAME_LIMIT < name.len as usize {
         return false;
     }
-    if !alone_fine(s) {
+    if !own_fine(s) {
         return false;
     }
     let kind = s.kind;

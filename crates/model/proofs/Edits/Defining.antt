@@ -11,6 +11,7 @@ use Rattle.model.specs.Kinds.{ofKind, sameKind}
 use Rattle.model.specs.Memory.{Memory, systemAt, isUser, placeNamed, named, userNamed, meant}
 use Rattle.model.specs.Chain.{predOf, onChain}
 use Rattle.model.specs.Words.{legalName, reserved}
+use Rattle.model.specs.WellFormed.{ownFine}
 use Rattle.model.specs.Use.{usedAt, nameInUse}
 use Rattle.model.specs.Refusals.{wrongPred, otherType, atOrBefore, noRoom}
 use Rattle.model.specs.Effects.{put, firstPred, fresh, linked, withPred, withName}
@@ -18,7 +19,7 @@ use Rattle.model.proofs.Basics.{or-false}
 use Rattle.model.proofs.Chains.Hops.{hop-zero, hop-next, ring-free}
 use Rattle.model.proofs.Chains.Steps.{off-path}
 use Rattle.model.proofs.Chains.Relink.{Misses}
-use Rattle.model.proofs.Memories.Fine.{Placed, ownFine, Own, own-of, own-from, Fine, same-kind}
+use Rattle.model.proofs.Memories.Fine.{Placed, Own, own-of, own-from, Fine, same-kind}
 use Rattle.model.proofs.Memories.Named.{place-stands, place-name, place-within, user-place, named-place}
 use Rattle.model.proofs.Chains.Frames.{EachEnabled, unused-missed}
 use Rattle.model.proofs.Edits.Putting.{put-fine}
