@@ -1,5 +1,6 @@
 // Texts and numbers written into a lent part, in place and in one pass. A writer takes the place where its text is to begin and returns the place
 // after it, so that writers follow on one another; what they leave in the whole part is `Wrote` of specs/.
+use facts::limits::MILLION;
 use model::Name;
 use signed::magnitude;
 ghost use mathlib.Core.List.{_∷_, []};
@@ -43,7 +44,7 @@ pub fn put_byte(out: &mut [u8], at: usize, b: u8) -> usize
     at + 1
 }
 
-// The last digit, the last two, three, six: divisors are constants, so that no division is left in the machine code.
+// The last digit, the last two, three, four, six: divisors are constants, so that no division is left in the machine code.
 fn put_one(out: &mut [u8], at: usize, n: u64) -> usize
     requires { ⌜ at + 1 ≤ length (now out) ⌝ }
     ensures { λ r. ⌜ Wrote (lastDigits 1 n) (now (out .entry)) at (now (out .exit)) r ⌝ }
@@ -67,6 +68,14 @@ fn put_three(out: &mut [u8], at: usize, n: u64) -> usize
     put_two(out, i, n)
 }
 
+fn put_four(out: &mut [u8], at: usize, n: u64) -> usize
+    requires { ⌜ at + 4 ≤ length (now out) ⌝ }
+    ensures { λ r. ⌜ Wrote (lastDigits 4 n) (now (out .entry)) at (now (out .exit)) r ⌝ }
+{
+    let i = put_two(out, at, n / 100);
+    put_two(out, i, n)
+}
+
 fn put_six(out: &mut [u8], at: usize, n: u64) -> usize
     requires { ⌜ at + 6 ≤ length (now out) ⌝ }
     ensures { λ r. ⌜ Wrote (lastDigits 6 n) (now (out .entry)) at (now (out .exit)) r ⌝ }
@@ -75,9 +84,9 @@ fn put_six(out: &mut [u8], at: usize, n: u64) -> usize
     put_three(out, i, n)
 }
 
-// Without leading zeros.
-pub fn put_decimal(out: &mut [u8], at: usize, n: u64) -> usize
-    requires { ⌜ at + length (decimal n) ≤ length (now out) ⌝ }
+// Without leading zeros: up to four digits.
+fn put_short(out: &mut [u8], at: usize, n: u64) -> usize
+    requires { ⌜ (n < 10 ^ 4) × (at + length (decimal n) ≤ length (now out)) ⌝ }
     ensures { λ r. ⌜ Wrote (decimal n) (now (out .entry)) at (now (out .exit)) r ⌝ }
 {
     if n < 10 {
@@ -89,12 +98,19 @@ pub fn put_decimal(out: &mut [u8], at: usize, n: u64) -> usize
     if n < 1000 {
         return put_three(out, at, n);
     }
+    put_four(out, at, n)
+}
+
+// Without leading zeros: all but the last four digits first, as many as there are.
+pub fn put_decimal(out: &mut [u8], at: usize, n: u64) -> usize
+    requires { ⌜ at + length (decimal n) ≤ length (now out) ⌝ }
+    ensures { λ r. ⌜ Wrote (decimal n) (now (out .entry)) at (now (out .exit)) r ⌝ }
+{
     if n < 10000 {
-        let i = put_one(out, at, n / 1000);
-        return put_three(out, i, n);
+        return put_short(out, at, n);
     }
-    let i = put_two(out, at, n / 1000);
-    put_three(out, i, n)
+    let i = put_decimal(out, at, n / 10000);
+    put_four(out, i, n)
 }
 
 // m millionths with six decimals.
@@ -102,9 +118,9 @@ fn put_millionths(out: &mut [u8], at: usize, m: u64) -> usize
     requires { ⌜ at + length (millionths m) ≤ length (now out) ⌝ }
     ensures { λ r. ⌜ Wrote (millionths m) (now (out .entry)) at (now (out .exit)) r ⌝ }
 {
-    let i = put_decimal(out, at, m / 1000000);
+    let i = put_decimal(out, at, m / MILLION);
     let j = put_byte(out, i, b'.');
-    put_six(out, j, m % 1000000)
+    put_six(out, j, m % MILLION)
 }
 
 // z millionths with six decimals, and a minus only below zero.
