@@ -26,6 +26,8 @@ pub mod Demand
 pub mod Claims
 pub mod Checklist
 pub mod Removed
+pub mod Sessions
 pub mod Table
 pub mod Stored
 pub mod Histories
+pub mod Examples
