@@ -19,7 +19,7 @@ pub record OfMemories : Type 0 where
       "KLN?" ⇒ replies "ZERO=ZERO \nPI_BASE=HEXAPOD \nPI_LEVELLING=HEXAPOD\n" ∷ "KSD B" ⇒ taken ∷ "KSD A" ⇒ taken
       ∷ "KLN?" ⇒ replies "ZERO=ZERO \nPI_BASE=HEXAPOD \nPI_LEVELLING=HEXAPOD \nB=ZERO \nA=ZERO\n"
       ∷ "KEN HEXAPOD" ⇒ number 7 ∷ "KLT? HEXAPOD" ⇒ number 7 ∷ "KLN A HEXAPOD" ⇒ number 7 ∷ [])
-  -- [Memory 2] a predecessor is of the same type, or the group's fixed system
+  -- [Memory 2] which predecessors a system may have: one of its type, the fixed one of its group
   pub predecessors : Session (
       "KSD D" ⇒ taken ∷ "KST T" ⇒ taken ∷ "KST S" ⇒ taken ∷ "KSW W" ⇒ taken ∷ "KLN W T" ⇒ number 10 ∷ "KLN T D" ⇒ number 10 ∷ "KLN T S" ⇒ taken
       ∷ "KLN T ZERO" ⇒ taken ∷ "KLN W PI_BASE" ⇒ number 10 ∷ "CCL 1 ADVANCED" ⇒ taken ∷ "KSB B" ⇒ taken ∷ "KLD L" ⇒ taken
@@ -109,7 +109,7 @@ pub record OfLines : Type 0 where
       ∷ "KLT? A" ⇒ replies "Name=A EndCoordinateSystem=ZERO X=1.000000 Y=2.000000 Z=3.000000 U=90.000000 V=0.000000 W=270.000000 Steps=1\n"
       ∷ "KSD A X" ⇒ number 5 ∷ "KSD A X 1 X 1" ⇒ number 5 ∷ "KSD A Q 1" ⇒ number 5 ∷ "KSD A 1 X" ⇒ number 5
       ∷ "KSD A X 9999 Y" ⇒ number 5 ∷ "KSD A X 9999 Y 1x" ⇒ number 5 ∷ "KSD A X 9999 U 45" ⇒ number 6 ∷ [])
-  -- [A line] angles by value; a negative one is kept as itself plus 360
+  -- [A line] angles, however they are written; below zero a full turn is added
   pub angles : Session (
       "KSD A U 0 V 90.000000 W 180" ⇒ taken ∷ "KSD A U 270 V 180 W -180" ⇒ taken ∷ "KSD A V -90.0 W -270" ⇒ taken
       ∷ "KLT? A" ⇒ replies "Name=A EndCoordinateSystem=ZERO X=0.000000 Y=0.000000 Z=0.000000 U=0.000000 V=270.000000 W=90.000000 Steps=1\n"
@@ -141,7 +141,7 @@ pub record OfCommands : Type 0 where
       ∷ "KLN A ZERO" ⇒ taken
       ∷ "KLT? A" ⇒ replies "Name=A EndCoordinateSystem=ZERO X=1.000000 Y=0.000000 Z=0.000000 U=0.000000 V=0.000000 W=0.000000 Steps=1\n"
       ∷ "KLN A" ⇒ number 5 ∷ "KLN A B A" ⇒ number 5 ∷ [])
-  -- [Commands, KCP] D gets all of S but its name; a new D is last, an existing one keeps its place and its successors
+  -- [Commands, KCP] D gets all of S but its name: here one D that is there, with a successor, and a new one, which comes last
   pub copy : Session (
       "KSW A X 1" ⇒ taken ∷ "KSW D" ⇒ taken ∷ "KSW S Y 2 W 90" ⇒ taken ∷ "KSW E" ⇒ taken ∷ "KLN S A" ⇒ taken ∷ "KLN E D" ⇒ taken
       ∷ "KCP S D" ⇒ taken ∷ "KCP S N" ⇒ taken
