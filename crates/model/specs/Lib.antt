@@ -14,6 +14,7 @@ pub mod Chain
 pub mod Use
 pub mod Words
 pub mod WellFormed
+pub mod Recurrences
 pub mod Request
 pub mod Effects
 pub mod Reply

@@ -4,7 +4,7 @@ use mathlib.Core.Path.{_≡_}
 use Prim.Native.String.{String}
 use Rattle.model.specs.Base.{ℕ, _+_, _*_, _-_, List, [], _∷_, _++_, map, Bool, true, false, cond, _&&_, Option, none, some, eqb, leb, take, replicate}
 use Rattle.model.specs.Ascii.{ascii}
-use Rattle.model.specs.Lists.{same, pieces}
+use Rattle.model.specs.Lists.{same, pieces, joined}
 use Rattle.model.specs.Memory.{State}
 use Rattle.model.specs.Machine.{Outcome, Begun, stepped, restart, writeImage, startFactory, startImage}
 
@@ -24,6 +24,10 @@ gives bytes = record { number = 0; reply = bytes }
 
 abbrev pub replies : String → Answer
 replies t = gives (ascii t)
+
+-- a reply of several lines, each with what ends it
+abbrev pub lists : List String → Answer
+lists ts = gives (joined (map ascii ts))
 
 -- accepted, without a reply
 abbrev pub taken : Answer

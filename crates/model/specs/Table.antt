@@ -5,7 +5,7 @@ use Rattle.model.specs.Base.{[], _∷_, _++_}
 use Rattle.model.specs.Ascii.{ascii}
 use Rattle.model.specs.Machine.{writeImage, startFactory}
 use Rattle.model.specs.Trace.{ksrun}
-use Rattle.model.specs.Sessions.{answer, gives, replies, taken, number, lent, fifteen, sixteen, then}
+use Rattle.model.specs.Sessions.{answer, gives, replies, lists, taken, number, lent, fifteen, sixteen, then}
 
 -- [ksrun, the table] one statement of all its cases
 pub record Table : Type 0 where
@@ -19,7 +19,11 @@ pub record Table : Type 0 where
       ≡ replies "Name=A EndCoordinateSystem=ZERO X=0.000000 Y=0.000000 Z=0.000000 U=0.000000 V=90.000000 W=90.000000 Steps=1\n"
   -- −90 is kept and shown as 270
   pub negative-angle-kept : then ("KSD A W -90" ∷ []) "KLS?"
-      ≡ replies "Name=ZERO Type=ZERO X=0.000000 Y=0.000000 Z=0.000000 U=0.000000 V=0.000000 W=0.000000 \nName=PI_BASE Type=KSB(PI) X=0.000000 Y=0.000000 Z=0.000000 U=0.000000 V=0.000000 W=0.000000 \nName=PI_LEVELLING Type=KLD(PI) X=0.000000 Y=0.000000 Z=0.000000 U=0.000000 V=0.000000 W=0.000000 \nName=A Type=KSD X=0.000000 Y=0.000000 Z=0.000000 U=0.000000 V=0.000000 W=270.000000\n"
+      ≡ lists (
+      "Name=ZERO Type=ZERO X=0.000000 Y=0.000000 Z=0.000000 U=0.000000 V=0.000000 W=0.000000 \n"
+      ∷ "Name=PI_BASE Type=KSB(PI) X=0.000000 Y=0.000000 Z=0.000000 U=0.000000 V=0.000000 W=0.000000 \n"
+      ∷ "Name=PI_LEVELLING Type=KLD(PI) X=0.000000 Y=0.000000 Z=0.000000 U=0.000000 V=0.000000 W=0.000000 \n"
+      ∷ "Name=A Type=KSD X=0.000000 Y=0.000000 Z=0.000000 U=0.000000 V=0.000000 W=270.000000\n" ∷ [])
   pub negative-angle-shown : then ("KSD A W -90" ∷ []) "KLT? A"
       ≡ replies "Name=A EndCoordinateSystem=ZERO X=0.000000 Y=0.000000 Z=0.000000 U=0.000000 V=0.000000 W=270.000000 Steps=1\n"
   -- the offset limit, and the digits of a number
