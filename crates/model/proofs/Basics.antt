@@ -27,6 +27,14 @@ pub and-assoc : (a b c : Bool) → (a && b) && c ≡ a && (b && c)
 and-assoc true b c = refl
 and-assoc false b c = refl
 
+pub and-false : (a : Bool) → a && false ≡ false
+and-false true = refl
+and-false false = refl
+
+pub and-true : (a : Bool) → a && true ≡ a
+and-true true = refl
+and-true false = refl
+
 pub or-split : (a b : Bool) → a || b ≡ true → (a ≡ true) ⊎ (b ≡ true)
 or-split true b e = inl refl
 or-split false b e = inr e
