@@ -20,7 +20,7 @@ use Rattle.model.specs.Words.{words, legalName, number, angle?, quarters
 use Rattle.model.specs.WellFormed.{offsetsFine, turnsFine, noOffset}
 use Rattle.model.specs.Request.{Change, Query, Reading, Command, Values, reading, unknown, malformed, beyond, asks, change, list, lastError, define, link, copy, remove, enable, setLevel, save, restore, reset, enabledOnes, systemsAll, links, resultants, resultantOf, axis, firstAxis, mayCome, pairs, noValues, given, inRange, offsetsOf, turnsOf, definition, names?, word, oneName, twoNames, sameWords, fixedWords, levelWords, resultantWords, definitions, edits, settings, queries, commands, readBy, readWords}
 use Rattle.model.specs.Claims.{LegalDefinition, AsksNothingIllegal}
-use Rattle.model.proofs.Basics.{and-split, and-join, or-left, or-right, either, all-at}
+use Rattle.model.proofs.Basics.{and-split, and-join, or-left, or-right, either, all-at, none-some}
 
 -- ---- what is legal
 
@@ -69,9 +69,6 @@ NoOffsets vs = (i : ℕ) → i < 3 → getD vs i none ≡ none
 
 abbrev Next : Kind → List ℕ → List (List ℕ) → Values → Values → Type 0
 Next k a rest vs end = (mayCome k (axis a) vs ≡ true) × (z : ℤ) × (pairs k rest (set vs (axis a) (some z)) ≡ some end)
-
-none-some : {A B : Type 0} {x : A} → _≡_ {A = Option A} none (some x) → B
-none-some e = let z : _≡_ {A = ℕ} 0 1 = cc in absurd (omega arith)
 
 -- a pair that was read
 pair-read : (k : Kind) (a n : List ℕ) (rest : List (List ℕ)) (vs end : Values) → pairs k (a ∷ n ∷ rest) vs ≡ some end → Next k a rest vs end
