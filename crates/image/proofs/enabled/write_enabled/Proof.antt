@@ -4,7 +4,7 @@ use mathlib.Core.List.{List, [], _∷_, _++_}
 use native.Mathlib.Omega.{arith}
 use lib.ListN.{length}
 use Rattle.model.specs.Image.{whole, numbers, enabledBytes}
-use Rattle.image.proofs.Puts.{Left, left-all, left-put, left-fits, left-done, put-long}
+use Rattle.image.proofs.Left.{Left, left-all, left-wrote, left-fits, left-done, wrote-long}
 use Rattle.image.proofs.EnabledSteps.{single-bytes, pair-bytes}
 use borrow.Author.Needs.{needs}
 use Rattle.image.proofs.enabled.write_enabled.Statement.{statement}
@@ -71,7 +71,7 @@ write-numbers-requires-2 : tie.Need-write-numbers-requires-2
 write-numbers-requires-2 c κs =
     let w = c .before .before .before in
     let o = w .before .before .before in
-    (omega arith, left-fits (four o) [] _ (left-put (all-left o) (w .write-number .ensures)) (rw (put-long (w .write-number .ensures)) (room o)))
+    (omega arith, left-fits (four o) [] _ (left-wrote (all-left o) (w .write-number .ensures)) (rw (wrote-long (w .write-number .ensures)) (room o)))
 
 same-length : tie.Need-same-length
 same-length c = search needs
@@ -87,7 +87,7 @@ returns-2 c =
     let x = c .before .before in
     let w = x .before .before .before .before in
     let o = w .before .before .before in
-    rw (is-pair o) (left-done (left-put (left-put (all-left o) (w .write-number .ensures)) (x .write-numbers2 .ensures)))
+    rw (is-pair o) (left-done (left-wrote (left-wrote (all-left o) (w .write-number .ensures)) (x .write-numbers2 .ensures)))
 
 pub write-enabled-spec : {M : Type 1} → statement M
 write-enabled-spec =

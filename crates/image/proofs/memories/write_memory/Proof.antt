@@ -8,8 +8,8 @@ use Rattle.model.specs.Image.{edition, numbers, systemBytes, enabledBytes, imag
 use Rattle.model.specs.Stored.{systemsOf, memoryOf}
 use Rattle.model.proofs.Image.Limits.{fits}
 use Rattle.chains.proofs.Copies.{length-mapped}
-use Rattle.image.proofs.Puts.{Left, left-put, left-fits, left-done, put-long}
-use Rattle.image.proofs.MemoryPuts.{last-part, after-head, image-left}
+use Rattle.image.proofs.Left.{Left, left-wrote, left-fits, left-done, wrote-long}
+use Rattle.image.proofs.MemoryLeft.{last-part, after-head, image-left}
 use borrow.Author.Needs.{needs}
 use Rattle.image.proofs.memories.write_memory.Statement.{statement}
 use Rattle.image.proofs.memories.write_memory.Tie as tie
@@ -32,10 +32,10 @@ module _ (c : tie.Start) where
   all-left = image-left (c .args .m) long (c .pre .0) (c .args .out .now)
 
 left-listed : (c : tie.After-write-numbers) → (let s = c .before .before .before .before in LeftOf s (after-head (s .args .m) (long s) (s .pre .0)) (c .write-numbers .result) (c .write-numbers .last .0))
-left-listed c = left-put (all-left (c .before .before .before .before)) (c .write-numbers .ensures)
+left-listed c = left-wrote (all-left (c .before .before .before .before)) (c .write-numbers .ensures)
 
 left-enabled : (c : tie.After-write-systems) → (let s = c .before .before .before .before .before .before .before .before in LeftOf s (last-part (s .args .m) (long s) (s .pre .0)) (c .write-systems .result) (c .write-systems .last .0))
-left-enabled c = left-put (left-listed (c .before .before .before .before)) (c .write-systems .ensures)
+left-enabled c = left-wrote (left-listed (c .before .before .before .before)) (c .write-systems .ensures)
 
 cast-t7 : tie.Need-cast-t7
 cast-t7 c = search needs
@@ -50,7 +50,7 @@ write-systems-requires c κs =
     let w = c .before .before .before in
     let s = w .before .before .before .before in (
       (s .pre .0, s .pre .1),
-      room s (joined (map systemBytes (systemsOf (s .args .m)))) (last-part (s .args .m) (long s) (s .pre .0)) _ _ (put-long (w .write-numbers .ensures)) (left-listed w),
+      room s (joined (map systemBytes (systemsOf (s .args .m)))) (last-part (s .args .m) (long s) (s .pre .0)) _ _ (wrote-long (w .write-numbers .ensures)) (left-listed w),
     )
 
 write-enabled-requires : tie.Need-write-enabled-requires
@@ -58,13 +58,13 @@ write-enabled-requires c κs =
     let v = c .before .before .before .before in
     let w = v .before .before .before .before in
     let s = w .before .before .before .before in
-    room s (enabledBytes (s .args .m .enabled)) [] _ _ (put-long (v .write-systems .ensures) ∙ put-long (w .write-numbers .ensures)) (left-enabled v)
+    room s (enabledBytes (s .args .m .enabled)) [] _ _ (wrote-long (v .write-systems .ensures) ∙ wrote-long (w .write-numbers .ensures)) (left-enabled v)
 
 same-length : tie.Need-same-length
 same-length c = search needs
 
 returns : tie.Need-returns
-returns c = let x = c .before .before in left-done (left-put (left-enabled (x .before .before .before .before .before)) (x .write-enabled .ensures))
+returns c = let x = c .before .before in left-done (left-wrote (left-enabled (x .before .before .before .before .before)) (x .write-enabled .ensures))
 
 pub write-memory-spec : {M : Type 1} → statement M
 write-memory-spec =

@@ -9,8 +9,8 @@ use Rattle.model.specs.Image.{systemBytes}
 use Rattle.model.specs.Stored.{systemOf, systemsOf}
 use Rattle.chains.proofs.Copies.{length-mapped, unset}
 use Rattle.memory.proofs.Shape.{shaped-count, shaped-at}
-use Rattle.image.proofs.MemoryPuts.{systems-turn, systems-end, offsets-small}
-use Rattle.image.proofs.Puts.{Left, left-all, left-put, left-fits, left-done, put-long}
+use Rattle.image.proofs.MemoryLeft.{systems-turn, systems-end, offsets-small}
+use Rattle.image.proofs.Left.{Left, left-all, left-wrote, left-fits, left-done, wrote-long}
 use Rattle.image.proofs.memories.write_systems.Statement.{statement}
 use Rattle.image.proofs.memories.write_systems.Tie as tie
 
@@ -77,7 +77,7 @@ loop-again c =
     let w = c .before .before in
     let t = w .before .before .before in
     let l = t .before in
-    (omega (arith, t .loop-test .taken), put-long (w .write-system .ensures) ∙ l .loop .inv .1, left-put (next-left t) (w .write-system .ensures))
+    (omega (arith, t .loop-test .taken), wrote-long (w .write-system .ensures) ∙ l .loop .inv .1, left-wrote (next-left t) (w .write-system .ensures))
 
 same-length : tie.Need-same-length Inv-loop μ-loop
 same-length c = c .before .loop .inv .1

@@ -5,7 +5,7 @@ use native.Mathlib.Omega.{arith}
 use borrow.Author.Needs.{needs}
 use lib.ListN.{length, take, drop, getD}
 use Rattle.model.specs.Image.{whole, numbers}
-use Rattle.image.proofs.Puts.{Left, left-all, left-done, left-put, left-fits, put-long, numbers-turn, numbers-end}
+use Rattle.image.proofs.Left.{Left, left-all, left-done, left-wrote, left-fits, wrote-long, numbers-turn, numbers-end}
 use Rattle.image.proofs.numbers.write_numbers.Statement.{statement}
 use Rattle.image.proofs.numbers.write_numbers.Tie as tie
 
@@ -29,7 +29,7 @@ next-left : (c : tie.In-loop Inv-loop μ-loop) → (
 next-left c =
     let l = c .before in
     let s = l .before .before in
-    rw (numbers-turn (s .args .t3) (s .args .count) (l .loop .i) (c .loop-test .taken) (omega (arith, long s, s .pre .0))) at (l .loop .inv .2)
+    rw (numbers-turn (s .args .t3) (s .args .count) (l .loop .i) (omega (arith, long s, s .pre .0)) (c .loop-test .taken)) at (l .loop .inv .2)
 
 loop-holds : tie.Need-loop-holds Inv-loop μ-loop
 loop-holds c = (omega arith, refl, left-all _ _ _)
@@ -57,7 +57,7 @@ loop-again c =
     let w = c .before .before in
     let t = w .before .before in
     let l = t .before in
-    (omega (arith, t .loop-test .taken), put-long (w .write-number .ensures) ∙ l .loop .inv .1, left-put (next-left t) (w .write-number .ensures))
+    (omega (arith, t .loop-test .taken), wrote-long (w .write-number .ensures) ∙ l .loop .inv .1, left-wrote (next-left t) (w .write-number .ensures))
 
 same-length : tie.Need-same-length Inv-loop μ-loop
 same-length c = c .before .loop .inv .1
@@ -66,7 +66,7 @@ returns : tie.Need-returns Inv-loop μ-loop
 returns c =
     let l = c .before in
     let s = l .before .before in
-    left-done (rw (numbers-end (s .args .t3) (s .args .count) (l .loop .i) (c .loop-test .left) (omega (arith, long s, s .pre .0))) at (l .loop .inv .2))
+    left-done (rw (numbers-end (s .args .t3) (s .args .count) (l .loop .i) (omega (arith, long s, s .pre .0)) (c .loop-test .left)) at (l .loop .inv .2))
 
 pub write-numbers-spec : {M : Type 1} → statement M
 write-numbers-spec =

@@ -3,12 +3,11 @@ use mathlib.Core.Path.{_≡_, refl, _∙_}
 use mathlib.Core.List.{List, [], _++_}
 use native.Mathlib.Omega.{arith}
 use lib.ListN.{length, take}
-use lib.Seq.{length-take-le}
 use borrow.Author.Tests.{leb-true}
 use Rattle.model.specs.Image.{numbers, systemBytes}
 use Rattle.model.specs.Stored.{bytesOf, systemOf}
-use Rattle.image.proofs.Puts.{Left, left-put, left-fits, left-done, put-long}
-use Rattle.image.proofs.SystemPuts.{after-offsets, after-name, after-head, system-left}
+use Rattle.image.proofs.Left.{Left, left-wrote, left-fits, left-done, wrote-long}
+use Rattle.image.proofs.SystemLeft.{after-offsets, after-name, after-head, system-left}
 use borrow.Author.Needs.{needs}
 use Rattle.image.proofs.systems.write_system.Statement.{statement}
 use Rattle.image.proofs.systems.write_system.Tie as tie
@@ -36,9 +35,6 @@ module _ (c : tie.After-turned-of) where
   short : start .args .s .name .len ≤ 16
   short = leb-true (start .args .s .name .len) 16 (start .pre .0 .0)
 
-  name-long : length (bytesOf (start .args .s .name)) ≡ start .args .s .name .len
-  name-long = length-take-le (start .args .s .name .len) (start .args .s .name .bytes) (omega (arith, short, long))
-
   left-all : LeftOf (numbers (take 2 head) ++ after-head (start .args .s) head offsets turned) (start .args .at) (start .args .out .now)
   left-all =
       system-left (start .args .s) head offsets turned (start .args .at) (start .args .out .now) long short (c .before .before .head-of .ensures) (c .before .offsets-of .ensures) (c .turned-of .ensures)
@@ -48,13 +44,13 @@ module _ (c : tie.After-turned-of) where
   room x rest i a e l = left-fits x rest (length a) l (omega (arith, start .pre .0 .1))
 
 left-named : (c : tie.After-write-numbers) → (let t = c .before .before in LeftOf t (after-head (start t .args .s) (head t) (offsets t) (turned t)) (c .write-numbers .result) (c .write-numbers .last .0))
-left-named c = left-put (left-all (c .before .before)) (c .write-numbers .ensures)
+left-named c = left-wrote (left-all (c .before .before)) (c .write-numbers .ensures)
 
-left-placed : (c : tie.After-write-name) → (let t = c .before .before .before .before .before .before in LeftOf t (after-name (start t .args .s) (head t) (offsets t) (turned t)) (c .write-name .result) (c .write-name .last .0))
-left-placed c = left-put (left-named (c .before .before .before .before)) (c .write-name .ensures)
+left-placed : (c : tie.After-put-name) → (let t = c .before .before .before .before .before .before in LeftOf t (after-name (start t .args .s) (head t) (offsets t) (turned t)) (c .put-name .result) (c .put-name .last .0))
+left-placed c = left-wrote (left-named (c .before .before .before .before)) (c .put-name .ensures)
 
 left-turned : (c : tie.After-write-numbers2) → (let t = c .before .before .before .before .before .before .before .before .before .before in LeftOf t (after-offsets (start t .args .s) (head t) (offsets t) (turned t)) (c .write-numbers2 .result) (c .write-numbers2 .last .0))
-left-turned c = left-put (left-placed (c .before .before .before .before)) (c .write-numbers2 .ensures)
+left-turned c = left-wrote (left-placed (c .before .before .before .before)) (c .write-numbers2 .ensures)
 
 head-of-requires : tie.Need-head-of-requires
 head-of-requires c κs = search needs
@@ -70,17 +66,11 @@ write-numbers-requires c κs =
     let t = c .before in
     (omega arith, room t (numbers (take 2 (head t))) (after-head (start t .args .s) (head t) (offsets t) (turned t)) _ _ refl (left-all t))
 
-write-name-requires : tie.Need-write-name-requires
-write-name-requires c κs =
+put-name-requires : tie.Need-put-name-requires
+put-name-requires c κs =
     let w = c .before .before .before in
-    let t = w .before .before in (
-      short t,
-      omega (
-        arith,
-        name-long t,
-        room t (bytesOf (start t .args .s .name)) (after-name (start t .args .s) (head t) (offsets t) (turned t)) _ _ (put-long (w .write-numbers .ensures)) (left-named w),
-      ),
-    )
+    let t = w .before .before in
+    (short t, room t (bytesOf (start t .args .s .name)) (after-name (start t .args .s) (head t) (offsets t) (turned t)) _ _ (wrote-long (w .write-numbers .ensures)) (left-named w))
 
 write-numbers-requires-2 : tie.Need-write-numbers-requires-2
 write-numbers-requires-2 c κs =
@@ -88,7 +78,7 @@ write-numbers-requires-2 c κs =
     let v = w .before .before .before .before in
     let t = v .before .before in (
       omega arith,
-      room t (numbers (take 3 (offsets t))) (after-offsets (start t .args .s) (head t) (offsets t) (turned t)) _ _ (put-long (w .write-name .ensures) ∙ put-long (v .write-numbers .ensures)) (left-placed w),
+      room t (numbers (take 3 (offsets t))) (after-offsets (start t .args .s) (head t) (offsets t) (turned t)) _ _ (wrote-long (w .put-name .ensures) ∙ wrote-long (v .write-numbers .ensures)) (left-placed w),
     )
 
 write-numbers-requires-3 : tie.Need-write-numbers-requires-3
@@ -98,14 +88,14 @@ write-numbers-requires-3 c κs =
     let v = w .before .before .before .before in
     let t = v .before .before in (
       omega arith,
-      room t (numbers (take 4 (turned t))) [] _ _ (put-long (x .write-numbers2 .ensures) ∙ put-long (w .write-name .ensures) ∙ put-long (v .write-numbers .ensures)) (left-turned x),
+      room t (numbers (take 4 (turned t))) [] _ _ (wrote-long (x .write-numbers2 .ensures) ∙ wrote-long (w .put-name .ensures) ∙ wrote-long (v .write-numbers .ensures)) (left-turned x),
     )
 
 same-length : tie.Need-same-length
 same-length c = search needs
 
 returns : tie.Need-returns
-returns c = let w = c .before .before in left-done (left-put (left-turned (w .before .before .before .before)) (w .write-numbers3 .ensures))
+returns c = let w = c .before .before in left-done (left-wrote (left-turned (w .before .before .before .before)) (w .write-numbers3 .ensures))
 
 pub write-system-spec : {M : Type 1} → statement M
 write-system-spec =
@@ -115,7 +105,7 @@ write-system-spec =
     offsets-of-requires
     turned-of-requires
     write-numbers-requires
-    write-name-requires
+    put-name-requires
     write-numbers-requires-2
     write-numbers-requires-3
     same-length

@@ -10,7 +10,7 @@ use Rattle.model.specs.Lists.{joined}
 use Rattle.model.specs.Kinds.{ofKind}
 use Rattle.model.specs.Image.{signedCode, numbers, systemBytes}
 use Rattle.model.specs.Stored.{bytesOf, systemOf}
-use Rattle.image.proofs.Puts.{Left, left-all}
+use Rattle.image.proofs.Left.{Left, left-all}
 
 -- h, o and t hold the numbers before the name, the coded offsets, and the turns with the predecessor's place
 module _ (s : StoredSystem) (h o t : List ℕ) where
