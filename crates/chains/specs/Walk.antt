@@ -33,10 +33,6 @@ atFixed = record { pose = neutral; steps = 0 }
 abbrev pub linkOn : Walk → Pose → Walk
 linkOn w own = record { pose = followed (w .pose) own; steps = w .steps + 1 }
 
--- of a place up to i, it is known what is reached there
-abbrev pub KnownUpTo : List System → ℕ → ℕ → Walk → Type 0
-KnownUpTo l i place w = place ≤ i → w ≡ walked l place
-
 -- every chain ends, and no sum on the way grows too large. Every well-formed memory has it (`walkable` in proofs/Ready.antt)
 pub record Walkable (l : List System) : Type 0 where
   pub few : length l ≤ maxSystems

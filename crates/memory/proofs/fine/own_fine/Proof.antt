@@ -1,15 +1,13 @@
 use mathlib.Core.Path.{sym, _∙_}
 use borrow.Author.Needs.{needs}
 use borrow.Author.Tests.{not-true, not-false}
-use Rattle.memory.specs.Fine.{aloneFine}
-use Rattle.memory.proofs.fine.alone_fine.Statement.{statement}
-use Rattle.memory.proofs.fine.alone_fine.Tie as tie
+use Rattle.memory.proofs.fine.own_fine.Statement.{statement}
+use Rattle.memory.proofs.fine.own_fine.Tie as tie
 
 name-fine-requires : tie.Need-name-fine-requires
 name-fine-requires c κs = search needs
 
 returns : tie.Need-returns
-unfolding aloneFine
 returns c = rw (sym (c .before .name-fine .ensures) ∙ not-true _ (c .if1 .taken))
 
 offsets-fine-requires : tie.Need-offsets-fine-requires
@@ -25,11 +23,10 @@ no-offset-requires : tie.Need-no-offset-requires
 no-offset-requires c κs = search needs
 
 returns-2 : tie.Need-returns-2
-unfolding aloneFine
 returns-2 c = rw (sym (c .before .before .before .before .before .before .before .name-fine .ensures) ∙ not-false _ (c .before .before .before .before .before .before .if1 .left), c .before .before .before .offsets-fine .ensures, c .before .before .turns-fine .ensures, c .before .turns-only .ensures, c .no-offset .ensures)
 
-pub alone-fine-spec : {M : Type 1} → statement M
-alone-fine-spec =
+pub own-fine-spec : {M : Type 1} → statement M
+own-fine-spec =
     tie.close
     (tie.spec
     name-fine-requires
