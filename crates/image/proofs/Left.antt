@@ -4,7 +4,7 @@ use mathlib.Core.Path.{_≡_, refl, sym, _∙_}
 use mathlib.Core.List.{List, [], _∷_, _++_}
 use native.Mathlib.Numerals.{add-one}
 use native.Mathlib.Omega.{arith}
-use lib.ListN.{length, take, drop, set, getD, length-append, drop-of-length-le}
+use lib.ListN.{length, take, drop, set, getD, length-set, length-append, drop-of-length-le}
 use lib.Seq.{drop-cons, getD-take, length-take-le}
 use Rattle.model.specs.Machine.{written}
 use Rattle.model.specs.Lists.{joined}
@@ -14,11 +14,12 @@ use Rattle.print.proofs.Laws.{length-over, over-append, over-front}
 
 -- of the text t, to be written at a place of b, the rest is left to write at i of a
 pub record Left (t : List ℕ) (at : ℕ) (b rest : List ℕ) (i : ℕ) (a : List ℕ) : Type 0 where
+  pub long : length a ≡ length b
   pub place : i + length rest ≡ at + length t
   pub bytes : over b at t ≡ over a i rest
 
 pub left-all : (t : List ℕ) (at : ℕ) (b : List ℕ) → Left t at b t at b
-left-all t at b = record { place = refl; bytes = refl }
+left-all t at b = record { long = refl; place = refl; bytes = refl }
 
 module _ {t b a : List ℕ} {at i : ℕ} where
   pub left-done : Left t at b [] i a → Wrote t b at a i
@@ -27,19 +28,18 @@ module _ {t b a : List ℕ} {at i : ℕ} where
 
   pub left-byte : {x : ℕ} {rest : List ℕ} → Left t at b (x ∷ rest) i a → Left t at b rest (i + 1) (set a i x)
   unfolding over
-  left-byte l = record { place = omega (arith, l .place); bytes = l .bytes }
+  left-byte {x} l = record { long = length-set a i x ∙ l .long; place = omega (arith, l .place); bytes = l .bytes }
 
   pub left-wrote : {x rest c : List ℕ} {j : ℕ} → Left t at b (x ++ rest) i a → Wrote x a i c j → Left t at b rest j c
   left-wrote {x} {rest} {c} {j} l p = record {
+    long = rw (p .bytes) (length-over x a i ∙ l .long);
     place = omega (arith, l .place, p .place, length-append x rest);
     bytes = l .bytes ∙ rw (p .bytes, p .place) (over-append x rest a i);
   }
 
-  pub left-fits : (x rest : List ℕ) (n : ℕ) → Left t at b (x ++ rest) i a → at + length t ≤ n → i + length x ≤ n
-  left-fits x rest n l h = omega (arith, l .place, length-append x rest)
-
-pub wrote-long : {t b a : List ℕ} {at next : ℕ} → Wrote t b at a next → length a ≡ length b
-wrote-long {t} {b} {a} {at} p = rw (p .bytes) (length-over t b at)
+  -- there is room for the next part, where there was for the whole
+  pub left-fits : (x rest : List ℕ) → Left t at b (x ++ rest) i a → at + length t ≤ length b → i + length x ≤ length a
+  left-fits x rest l h = omega (arith, l .long, l .place, length-append x rest)
 
 -- written from the start
 pub wrote-front : (t b a : List ℕ) (next : ℕ) → length t ≤ length b → Wrote t b 0 a next → (a ≡ written t b) × (next ≡ length t)

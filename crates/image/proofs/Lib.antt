@@ -1,4 +1,3 @@
-pub mod Told  -- what an answer says, and the value in it
 pub mod Signs  -- signed numbers
 pub mod NumberLaws  -- a number at a place
 pub mod Turns  -- a reader that is repeated, in turns

@@ -1,4 +1,4 @@
--- The bytes of a stored system, as they are left to write, part after part.
+-- The bytes of a stored system, part after part as they are written.
 use Prim.Native.Nat.{ℕ, _≤_}
 use mathlib.Core.Path.{_≡_, sym, ap, _∙_}
 use mathlib.Core.List.{List, [], _∷_, _++_}
@@ -10,26 +10,15 @@ use Rattle.model.specs.Lists.{joined}
 use Rattle.model.specs.Kinds.{ofKind}
 use Rattle.model.specs.Image.{signedCode, numbers, systemBytes}
 use Rattle.model.specs.Stored.{bytesOf, systemOf}
-use Rattle.image.proofs.Left.{Left, left-all}
 
--- h, o and t hold the numbers before the name, the coded offsets, and the turns with the predecessor's place
-module _ (s : StoredSystem) (h o t : List ℕ) where
-  abbrev pub after-offsets : List ℕ
-  after-offsets = numbers (take 4 t) ++ []
-
-  abbrev pub after-name : List ℕ
-  after-name = numbers (take 3 o) ++ after-offsets
-
-  abbrev pub after-head : List ℕ
-  after-head = bytesOf (s .name) ++ after-name
-
-  pub system-left : (at : ℕ) (b : List ℕ) → length (s .name .bytes) ≡ 16 → s .name .len ≤ 16
-      → take 2 h ≡ ofKind (s .kind) .code ∷ s .name .len ∷ []
-      → take 3 o ≡ signedCode (s .offset .x) ∷ signedCode (s .offset .y) ∷ signedCode (s .offset .z) ∷ []
-      → take 4 t ≡ s .turns .u ∷ s .turns .v ∷ s .turns .w ∷ s .pred ∷ []
-      → Left (systemBytes (systemOf s)) at b (numbers (take 2 h) ++ after-head) at b
-  unfolding systemBytes joined
-  system-left at b l g eh eo et =
-      let n : length (bytesOf (s .name)) ≡ s .name .len = length-take-le (s .name .len) (s .name .bytes) (omega arith) in
-      let e : take 2 h ≡ ofKind (s .kind) .code ∷ length (bytesOf (s .name)) ∷ [] = eh ∙ ap (λ (k : ℕ). ofKind (s .kind) .code ∷ k ∷ []) (sym n) in
-      rw (e, eo, et) (left-all (systemBytes (systemOf s)) at b)
+-- h, o and t hold the numbers before the name, the offsets as written, and the turns with the predecessor's place
+pub system-parts : (s : StoredSystem) (h o t : List ℕ) → length (s .name .bytes) ≡ 16 → s .name .len ≤ 16
+    → take 2 h ≡ ofKind (s .kind) .code ∷ s .name .len ∷ []
+    → take 3 o ≡ signedCode (s .offset .x) ∷ signedCode (s .offset .y) ∷ signedCode (s .offset .z) ∷ []
+    → take 4 t ≡ s .turns .u ∷ s .turns .v ∷ s .turns .w ∷ s .pred ∷ []
+    → systemBytes (systemOf s) ≡ numbers (take 2 h) ++ (bytesOf (s .name) ++ (numbers (take 3 o) ++ (numbers (take 4 t) ++ [])))
+unfolding systemBytes joined
+system-parts s h o t l g eh eo et =
+    let n : length (bytesOf (s .name)) ≡ s .name .len = length-take-le (s .name .len) (s .name .bytes) (omega arith) in
+    let e : take 2 h ≡ ofKind (s .kind) .code ∷ length (bytesOf (s .name)) ∷ [] = eh ∙ ap (λ (k : ℕ). ofKind (s .kind) .code ∷ k ∷ []) (sym n) in
+    rw (e, eo, et)

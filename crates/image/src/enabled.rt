@@ -1,4 +1,4 @@
-// What is enabled, in an image: 0 and a place, or 1, work place, tool place; then orientational and levelling place.
+// What is enabled, in an image: a number that tells one system from a pair, and the places, group by group.
 use crate::numbers::Number;
 use crate::numbers::read_number;
 use crate::numbers::read_numbers;

@@ -1,4 +1,4 @@
-// Whole numbers in groups of seven bits, lowest first, each but the last with 128 added.
+// Whole numbers, seven bits to a byte, low ones first, and 128 more where another byte follows.
 use signed::wide;
 ghost use mathlib.Core.Path.{_≡_};
 ghost use Prim.Native.Nat.{_+_, _≤_};

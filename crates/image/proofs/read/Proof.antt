@@ -6,7 +6,7 @@ use Rattle.model.specs.WellFormed.{memoryFine}
 use Rattle.model.specs.Stored.{memoryOf}
 use Rattle.model.specs.Image.{readMemory}
 use Rattle.image.proofs.Answering.{refuses, accepts, unread, bytes-left, ill-formed, well-formed}
-use Rattle.image.proofs.Told.{told-value}
+use Rattle.model.proofs.Told.{told-value}
 use borrow.Author.Needs.{needs}
 use Rattle.image.proofs.read.Statement.{statement}
 use Rattle.image.proofs.read.Tie as tie

@@ -9,7 +9,7 @@ use borrow.Author.Tests.{ne-eqb}
 use Rattle.model.specs.Told.{orNumber}
 use Rattle.model.specs.Image.{kindOf}
 use Rattle.image.specs.Codes.{kindCoded}
-use Rattle.image.proofs.Told.{refuses-none}
+use Rattle.model.proofs.Told.{refuses-none}
 use Rattle.image.proofs.codes.kind_coded.Statement.{statement}
 use Rattle.image.proofs.codes.kind_coded.Tie as tie
 

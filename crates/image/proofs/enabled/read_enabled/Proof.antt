@@ -7,7 +7,7 @@ use borrow.Author.Tests.{not-true, not-false}
 use Rattle.model.specs.Image.{upTo, several, mostByte}
 use Rattle.model.proofs.Image.Numbers.{whole-up-to}
 use Rattle.model.proofs.Image.Several.{stored-low}
-use Rattle.image.proofs.Told.{told-value, tells-some, refuses-none}
+use Rattle.model.proofs.Told.{told-value, tells-some, refuses-none}
 use Rattle.image.proofs.EnabledSteps.{no-first, no-places, places-read}
 use borrow.Author.Needs.{needs}
 use Rattle.image.proofs.enabled.read_enabled.Statement.{statement}

@@ -7,7 +7,7 @@ use Rattle.model.specs.Stored.{systemOf, memoryShaped}
 use Rattle.model.proofs.Basics.{and-join}
 use Rattle.model.specs.Image.{several, mostByte, readSystems}
 use Rattle.image.proofs.MemorySteps.{no-head, other-edition, too-many, no-systems, no-enabled, memory-there}
-use Rattle.image.proofs.Told.{told-value, tells-some, refuses-none}
+use Rattle.model.proofs.Told.{told-value, tells-some, refuses-none}
 use borrow.Author.Needs.{needs}
 use Rattle.image.proofs.memories.read_memory.Statement.{statement}
 use Rattle.image.proofs.memories.read_memory.Tie as tie

@@ -14,7 +14,7 @@ use Rattle.memory.proofs.Shape.{all-more}
 use Rattle.model.specs.Stored.{systemOf, nameShaped}
 use Rattle.model.proofs.Basics.{true-false}
 use Rattle.model.specs.Image.{readSystem, readSystems}
-use Rattle.image.proofs.Told.{told-value, tells-some, refuses-none}
+use Rattle.model.proofs.Told.{told-value, tells-some, refuses-none}
 use Rattle.image.proofs.Turns.{prefixed, turn-first, turn-read, turn-refused, turn-last}
 use Rattle.image.proofs.memories.read_systems.Statement.{statement}
 use Rattle.image.proofs.memories.read_systems.Tie as tie

@@ -1,6 +1,6 @@
 use native.Mathlib.Omega.{arith}
 use Rattle.image.proofs.NameLaws.{name-long, name-beyond, name-there}
-use Rattle.image.proofs.Told.{tells-some, refuses-none}
+use Rattle.model.proofs.Told.{tells-some, refuses-none}
 use borrow.Author.Needs.{needs}
 use Rattle.image.proofs.names.read_name.Statement.{statement}
 use Rattle.image.proofs.names.read_name.Tie as tie

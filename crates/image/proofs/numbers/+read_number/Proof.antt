@@ -6,7 +6,7 @@ use borrow.Author.Needs.{needs}
 use mathlib.Core.Option.{some}
 use lib.ListN.{length, getD, drop}
 use Rattle.model.specs.Image.{upTo}
-use Rattle.image.proofs.Told.{told-value, refuses-none}
+use Rattle.model.proofs.Told.{told-value, refuses-none}
 use Rattle.model.proofs.Image.Numbers.{whole-up-to}
 use Rattle.image.proofs.NumberLaws.{at-end, at-last, at-most, rest-refused, rest-zero, rest-read}
 use borrow.Fn.Kinds.{In}

@@ -7,7 +7,7 @@ use mathlib.Core.List.{[], _∷_, _++_}
 use lib.ListN.{length, take, drop, set, length-set}
 use lib.Seq.{take-suc-set}
 use Rattle.model.specs.Image.{upTo, several}
-use Rattle.image.proofs.Told.{told-value, tells-some, refuses-none}
+use Rattle.model.proofs.Told.{told-value, tells-some, refuses-none}
 use Rattle.image.proofs.Turns.{prefixed, turn-first, turn-read, turn-refused, turn-last}
 use Rattle.image.proofs.numbers.read_numbers.Statement.{statement}
 use Rattle.image.proofs.numbers.read_numbers.Tie as tie

@@ -1,9 +1,8 @@
 use Prim.Native.Nat.{_+_, _/_, _%_, _≤_}
-use mathlib.Core.Path.{_≡_, refl, _∙_}
 use mathlib.Core.List.{[], _∷_}
 use native.Mathlib.Nat.{mod-lt}
 use native.Mathlib.Omega.{arith}
-use lib.ListN.{length, length-set}
+use lib.ListN.{length}
 use Rattle.model.specs.Image.{whole}
 use Rattle.model.proofs.Image.Wholes.{less, whole-last, whole-more}
 use Rattle.image.proofs.Left.{Left, left-all, left-byte, left-done}
@@ -12,7 +11,7 @@ use Rattle.image.proofs.numbers.write_number.Tie as tie
 
 abbrev Inv-loop : tie.InvT-loop
 Inv-loop out₀ at n left₀ i₀ out left i =
-    (left ≤ n) × (length out ≡ length out₀) × Left (whole n) at out₀ (whole left) i out
+    (left ≤ n) × Left (whole n) at out₀ (whole left) i out
 
 abbrev μ-loop : tie.MeasureT-loop
 μ-loop out₀ at n left₀ i₀ out left i = left
@@ -23,7 +22,7 @@ next-left : (c : tie.In-loop Inv-loop μ-loop) → (
     let s = c .before .before in
     Left (whole (s .args .n)) (s .args .at) (s .args .out .now) ((l .left % 128 + 128) ∷ whole (l .left / 128)) (l .i) (l .out)
     )
-next-left c = rw (whole-more (c .before .loop .left) (c .loop-test .taken)) at (c .before .loop .inv .2)
+next-left c = rw (whole-more (c .before .loop .left) (c .loop-test .taken)) at (c .before .loop .inv .1)
 
 -- the last group
 last-left : (c : tie.After-loop Inv-loop μ-loop) → (
@@ -31,10 +30,10 @@ last-left : (c : tie.After-loop Inv-loop μ-loop) → (
     let s = c .before .before in
     Left (whole (s .args .n)) (s .args .at) (s .args .out .now) (l .left ∷ []) (l .i) (l .out)
     )
-last-left c = rw (whole-last (c .before .loop .left) (c .loop-test .left)) at (c .before .loop .inv .2)
+last-left c = rw (whole-last (c .before .loop .left) (c .loop-test .left)) at (c .before .loop .inv .1)
 
 loop-holds : tie.Need-loop-holds Inv-loop μ-loop
-loop-holds c = (omega arith, refl, left-all _ _ _)
+loop-holds c = (omega arith, left-all _ _ _)
 
 add-out : tie.Need-add-out Inv-loop μ-loop
 add-out c = record { fits = omega (arith, mod-lt (c .before .loop .left) {m = 128} (omega arith)) }
@@ -43,33 +42,30 @@ cast-out : tie.Need-cast-out Inv-loop μ-loop
 cast-out c = record { fits = omega (arith, mod-lt (c .before .loop .left) {m = 128} (omega arith)) }
 
 slice-write-out : tie.Need-slice-write-out Inv-loop μ-loop
-slice-write-out c = omega (arith, c .before .loop .inv .1, next-left c .place, c .before .before .pre)
+slice-write-out c = omega (arith, next-left c .long, next-left c .place, c .before .before .pre)
 
 add-i : tie.Need-add-i Inv-loop μ-loop
-add-i c = omega (arith, c .before .loop .inv .1, next-left c .place, c .before .before .pre)
+add-i c = omega (arith, next-left c .long, next-left c .place, c .before .before .pre)
 
 loop-less : tie.Need-loop-less Inv-loop μ-loop
 loop-less c = less (c .before .loop .left) (c .loop-test .taken)
 
 loop-again : tie.Need-loop-again Inv-loop μ-loop
 loop-again c =
-    let l = c .before .loop in (
-      omega (arith, l .inv .0, less (l .left) (c .loop-test .taken)),
-      length-set (l .out) (l .i) (l .left % 128 + 128) ∙ l .inv .1,
-      left-byte (next-left c),
-    )
+    let l = c .before .loop in
+    (omega (arith, l .inv .0, less (l .left) (c .loop-test .taken)), left-byte (next-left c))
 
 cast-out-2 : tie.Need-cast-out-2 Inv-loop μ-loop
 cast-out-2 c = record { fits = omega (arith, c .loop-test .left) }
 
 slice-write-out-2 : tie.Need-slice-write-out-2 Inv-loop μ-loop
-slice-write-out-2 c = omega (arith, c .before .loop .inv .1, last-left c .place, c .before .before .pre)
+slice-write-out-2 c = omega (arith, last-left c .long, last-left c .place, c .before .before .pre)
 
 add-result : tie.Need-add-result Inv-loop μ-loop
-add-result c = omega (arith, c .before .loop .inv .1, last-left c .place, c .before .before .pre)
+add-result c = omega (arith, last-left c .long, last-left c .place, c .before .before .pre)
 
 same-length : tie.Need-same-length Inv-loop μ-loop
-same-length c = let l = c .before .loop in length-set (l .out) (l .i) (l .left) ∙ l .inv .1
+same-length c = left-byte (last-left c) .long
 
 returns : tie.Need-returns Inv-loop μ-loop
 returns c = left-done (left-byte (last-left c))

@@ -8,7 +8,7 @@ use Rattle.model.specs.Stored.{bytesOf}
 use Rattle.model.specs.Image.{several, mostByte, mostOffset}
 use Rattle.model.proofs.Image.Several.{stored-low}
 use Rattle.image.proofs.SystemSteps.{no-offsets, no-turns, placed}
-use Rattle.image.proofs.Told.{told-value, tells-some, refuses-none}
+use Rattle.model.proofs.Told.{told-value, tells-some, refuses-none}
 use borrow.Author.Needs.{needs}
 use Rattle.image.proofs.systems.read_placed.Statement.{statement}
 use Rattle.image.proofs.systems.read_placed.Tie as tie

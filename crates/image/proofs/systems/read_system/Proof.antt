@@ -7,7 +7,7 @@ use Rattle.model.specs.Told.{orNumber}
 use Rattle.model.specs.Kinds.{kinds}
 use Rattle.model.specs.Image.{several, mostByte, kindOf}
 use Rattle.image.proofs.SystemSteps.{coded-kind, coded-none, no-head, no-kind, no-name, named}
-use Rattle.image.proofs.Told.{told-value, refuses-none}
+use Rattle.model.proofs.Told.{told-value, refuses-none}
 use borrow.Author.Needs.{needs}
 use Rattle.image.proofs.systems.read_system.Statement.{statement}
 use Rattle.image.proofs.systems.read_system.Tie as tie
