@@ -14,15 +14,18 @@ use Rattle.model.specs.declared.System.{System as StoredSystem}
 use Rattle.model.specs.declared.Memory.{Memory as StoredMemory}
 use Rattle.model.specs.declared.State.{State as StoredState}
 use Rattle.model.specs.Memory.{Memory, State, isUser, placeNamed}
-use Rattle.model.specs.Request.{Change, define, link, copy, remove}
-use Rattle.model.specs.Refusals.{Rung, first, changeLadder, absent, noRoom}
-use Rattle.model.specs.Effects.{withVolatile, put, fresh, changed}
+use Rattle.model.specs.Request.{Change, asks, change, define, link, copy, remove}
+use Rattle.model.specs.Refusals.{Rung, first, readingLadder, requestLadder, changeLadder, absent, noRoom}
+use Rattle.model.specs.Effects.{withVolatile, withError, put, fresh, changed, next}
+use Rattle.model.specs.Reply.{reply}
+use Rattle.model.specs.Machine.{refused, answered, carriedOut, judged}
 use Rattle.model.specs.Stored.{systemOf, systemsOf, memoryOf, stateOf, nameShaped}
 use Rattle.model.proofs.Basics.{or-false}
+use Rattle.model.proofs.Ladder.Refusing.{judged-refused, judged-taken}
 use Rattle.model.proofs.Memories.Named.{place-within, present-user}
 use Rattle.memory.specs.Put.{putAt}
 use Rattle.memory.proofs.ByName.{put-by-place}
-use Rattle.commands.specs.Given.{given, givenBy, accepts, refuses}
+use Rattle.commands.specs.Obeyed.{obeyed}
 use Rattle.commands.specs.declared.subject.Looked.{Looked}
 use Rattle.commands.specs.declared.changed.Deed.{Deed}
 use Rattle.commands.specs.declared.changed.Deed.the-variants.{SetError, Put}
@@ -32,14 +35,17 @@ use Rattle.commands.specs.Subject.{Sees}
 
 -- ---- the number decides
 
-module _ (st : State) (c : Change) (n : ℕ) (e : n ≡ first (changeLadder st (st .volatile) c)) where
-  given-refused : (n ≡ 0 → ⊥) → given st c ≡ refuses st n
-  unfolding given givenBy
-  given-refused z = ap (givenBy st c) (sym e) ∙ rw (ne-eqb n 0 z, givenBy)
+module _ (st : State) (c : Change) (n : ℕ) (e : n ≡ first (changeLadder st (st .volatile) c)) (b : List ℕ) where
+  judged-so : obeyed st (asks (change c)) b ≡ judged st n (asks (change c)) b
+  unfolding obeyed readingLadder requestLadder
+  judged-so = ap (λ (k : ℕ). judged st k (asks (change c)) b) (sym e)
 
-  given-accepted : n ≡ 0 → given st c ≡ accepts (changed st (st .volatile) c)
-  unfolding given givenBy
-  given-accepted z = ap (givenBy st c) (sym e) ∙ rw (eq-eqb n 0 z, givenBy)
+  obeyed-refused : (n ≡ 0 → ⊥) → obeyed st (asks (change c)) b ≡ refused (withError st n) n b
+  obeyed-refused z = judged-so ∙ judged-refused st n (asks (change c)) b (ne-eqb n 0 z)
+
+  obeyed-accepted : n ≡ 0 → obeyed st (asks (change c)) b ≡ answered (changed st (st .volatile) c) [] b
+  unfolding carriedOut next reply
+  obeyed-accepted z = judged-so ∙ judged-taken st n (asks (change c)) b (eq-eqb n 0 z)
 
 -- a decision of this number, that does this, and whose system can be stored
 abbrev Decided : ℕ → Deed → Decision → Type 0
@@ -53,14 +59,14 @@ module _ (s : StoredState) (c : Change) (n : ℕ) (e : n ≡ first (changeLadder
   unfolding done Fits
   decides-refused d z p =
       record {
-        given-is = (λ i. record { state = done (p .1 i) (systemOf (d .system)) st; number = p .0 i }) ∙ sym (given-refused st c n e z);
+        outcome = λ b. (λ i. record { state = done (p .1 i) (systemOf (d .system)) st; number = p .0 i; count = 0; buffer = b }) ∙ sym (obeyed-refused st c n e b z);
         doable = record { fits = rw (p .1, Fits) tt; named = p .2 };
       }
 
   pub decides-accepted : (d : Decision) (deed : Deed) → n ≡ 0 → Decided 0 deed d → Fits deed (s .volatile) → done deed (systemOf (d .system)) st ≡ changed st (st .volatile) c → Decides s c d
   decides-accepted d deed z p f q =
       record {
-        given-is = (λ i. record { state = done (p .1 i) (systemOf (d .system)) st; number = p .0 i }) ∙ ap accepts q ∙ sym (given-accepted st c n e z);
+        outcome = λ b. (λ i. record { state = done (p .1 i) (systemOf (d .system)) st; number = p .0 i; count = 0; buffer = b }) ∙ ap (λ (t : State). answered t [] b) q ∙ sym (obeyed-accepted st c n e b z);
         doable = record { fits = rw (p .1) f; named = p .2 };
       }
 
@@ -104,7 +110,7 @@ module _ (st : State) (m : Memory) where
       let q = passed 8 _ _ (omega arith) (p .1) in
       present-user m a (p .0) (q .0)
 
-  pub define-room : (k : Kind) (n : List ℕ) (t : Vec3) (u : Turns) → first (changeLadder st m (define k n t u)) ≡ 0 → noRoom m n ≡ false
+  pub define-room : (k : Kind) (n : List ℕ) (t : Vec3) (u : Turns) → first (changeLadder st m (define k n t u)) ≡ 0 → noRoom (m .systems) (placeNamed (m .systems) n) ≡ false
   unfolding changeLadder
   define-room k n t u e =
       let p = passed 8 _ _ (omega arith) e in
@@ -113,7 +119,7 @@ module _ (st : State) (m : Memory) where
       let s = passed 11 _ _ (omega arith) (r .1) in
       passed 13 _ _ (omega arith) (s .1) .0
 
-  pub copy-room : (s d : List ℕ) → first (changeLadder st m (copy s d)) ≡ 0 → noRoom m d ≡ false
+  pub copy-room : (s d : List ℕ) → first (changeLadder st m (copy s d)) ≡ 0 → noRoom (m .systems) (placeNamed (m .systems) d) ≡ false
   unfolding changeLadder
   copy-room s d e =
       let p = passed 7 _ _ (omega arith) e in
@@ -130,8 +136,8 @@ module _ (m : StoredMemory) (x y : List ℕ) (k : Looked) (s : Sees m x y k) (n 
   place-few = omega (arith, place-within (systemsOf m) n, s .counted, s .links .few)
 
   -- one place is free for a new name that passed number 13
-  pub room : noRoom (memoryOf m) n ≡ false → placeNamed (systemsOf m) n ≡ 0 → m .count < 16
-  unfolding noRoom isUser
+  pub room : noRoom (systemsOf m) (placeNamed (systemsOf m) n) ≡ false → placeNamed (systemsOf m) n ≡ 0 → m .count < 16
+  unfolding noRoom
   room e z = rw (s .stored) (leb-false 16 (length (systemsOf m)) (rw z at e))
 
 -- a definition is put at the place of its name

@@ -21,7 +21,7 @@ at-or-before-requires c κs = search needs
 returns : tie.Need-returns
 returns c =
     let a = c .before .before .before .before .args in
-    (λ l p. c .before .used .ensures ∙ flat-used l _ (p .links) (a .e) (a .place), λ l p. c .at-or-before .ensures ∙ flat-before l _ (p .links) (a .place) (a .equal) (a .other))
+    (λ l p. c .before .used .ensures ∙ flat-used l _ (p .links) (a .e) (a .place), λ l p. c .at-or-before .ensures ∙ flat-before l _ (p .links) (a .place) (a .other))
 
 pub ties-of-spec : {M : Type 1} → statement M
 ties-of-spec =
