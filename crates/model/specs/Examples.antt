@@ -104,6 +104,7 @@ pub record OfLines : Type 0 where
       ∷ "KLT? A" ⇒ replies "Name=A EndCoordinateSystem=ZERO X=1.000000 Y=-12.500000 Z=0.000001 U=0.000000 V=0.000000 W=0.000000 Steps=1\n"
       ∷ "KSD A X 00001" ⇒ number 5 ∷ "KSD A X 1." ⇒ number 5 ∷ "KSD A X .5" ⇒ number 5 ∷ "KSD A X 1.0000000" ⇒ number 5 ∷ "KSD A X 1.2.3" ⇒ number 5
       ∷ "KSD A X -" ⇒ number 5 ∷ "KSD A X --1" ⇒ number 5 ∷ "KSD A X +1" ⇒ number 5 ∷ "KSD A X 1E1" ⇒ number 5 ∷ "KSD A X -1000.000001" ⇒ number 6
+      ∷ "KSD A Y 1001" ⇒ number 6 ∷ "KSD A Z 1000.000001" ⇒ number 6
       ∷ "KSD A X -1000 Y 1000.000000" ⇒ taken ∷ "KSD A X -0 Y -0.000001" ⇒ taken
       ∷ "KLT? A" ⇒ replies "Name=A EndCoordinateSystem=ZERO X=0.000000 Y=-0.000001 Z=0.000000 U=0.000000 V=0.000000 W=0.000000 Steps=1\n" ∷ [])
   -- [A line] pairs in any order, no axis twice; a malformed word gives 5 even after a value that is too large
@@ -180,8 +181,8 @@ pub record OfCommands : Type 0 where
       ∷ "KLN?" ⇒ replies "ZERO=ZERO \nPI_BASE=HEXAPOD \nPI_LEVELLING=HEXAPOD \nA=ZERO\n" ∷ [])
   -- [Commands, ERR?] the last error stays until ERR? is sent, whatever is accepted meanwhile
   pub last-error : Session (
-      "FOO" ⇒ number 4 ∷ "KSD A" ⇒ taken ∷ "KSW A" ⇒ number 10 ∷ "KEN?" ⇒ replies "ZERO=ZERO \nPI_BASE=KSB(PI) \nPI_LEVELLING=KLD(PI)\n" ∷ "KEN A" ⇒ taken
-      ∷ "CCL 1 ADVANCED" ⇒ taken ∷ "WPA SKS" ⇒ taken ∷ "RPA SKS" ⇒ taken ∷ "DPA SKS" ⇒ taken ∷ "CCL 0" ⇒ taken
+      "FOO" ⇒ number 4 ∷ "KSD A" ⇒ taken ∷ "KSW A" ⇒ number 10 ∷ "KSD B" ⇒ taken ∷ "KCP A C" ⇒ taken ∷ "KLN B A" ⇒ taken ∷ "KRM C" ⇒ taken ∷ "KEN B" ⇒ taken
+      ∷ "KEN?" ⇒ replies "B=KSD \nPI_BASE=KSB(PI) \nPI_LEVELLING=KLD(PI)\n" ∷ "CCL 1 ADVANCED" ⇒ taken ∷ "WPA SKS" ⇒ taken ∷ "RPA SKS" ⇒ taken ∷ "DPA SKS" ⇒ taken ∷ "CCL 0" ⇒ taken
       ∷ "ERR?" ⇒ replies "10\n" ∷ "ERR?" ⇒ replies "0\n" ∷ "ERR? 1" ⇒ number 5 ∷ "ERR?" ⇒ replies "5\n" ∷ [])
 
 -- ---- "Lists run .."
