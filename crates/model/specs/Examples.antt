@@ -337,16 +337,27 @@ pub record OfHistories : Type 0 where
   pub prints : ksrun (ascii "KSD A\nKSW A\nKEN A\nKEN?\nKEN?\r\nERR?\nERR?\n")
       ≡ ascii "E 10\nA=KSD \nPI_BASE=KSB(PI) \nPI_LEVELLING=KLD(PI)\nE 3\n3\n0\n"
 
--- stored A, with this byte behind its name, and so many such systems counted
+-- A as it is stored, with this byte behind its name
 abbrev pub storedName : ℕ → Name
 storedName free = record { bytes = 65 ∷ replicate 15 free; len = 1 }
 
+-- all places taken by systems of one name, so many of them counted
 abbrev pub storedMemory : Name → ℕ → StoredMemory
 storedMemory n count =
     record { systems = replicate 16 (record { kind = Ksd; name = n; offset = origin; turns = noTurn; pred = 0 }); count = count; enabled = factory .enabled }
 
-abbrev pub storedState : Name → ℕ → StoredState
-storedState n count = record { volatile = storedMemory n count; permanent = storedMemory n count; level = 0; error = 0 }
+abbrev pub storedState : StoredMemory → StoredMemory → StoredState
+storedState v p = record { volatile = v; permanent = p; level = 0; error = 0 }
+
+-- a memory with A alone; one whose count and one whose name goes beyond its array
+abbrev pub fit : StoredMemory
+fit = storedMemory (storedName 66) 1
+
+abbrev pub miscounted : StoredMemory
+miscounted = storedMemory (storedName 66) 17
+
+abbrev pub overnamed : StoredMemory
+overnamed = storedMemory (record { bytes = replicate 16 65; len = 17 }) 1
 
 -- A alone
 abbrev pub onlyA : Memory
@@ -354,18 +365,18 @@ onlyA = record { systems = record { kind = Ksd; name = ascii "A"; offset = origi
 
 pub record OfStorage : Type 0 where
   -- [Empty programs, end] what lies behind a name or behind the last system is free
-  pub free : viewOf (storedState (storedName 66) 1) ≡ holds (started onlyA)
-  pub free-zero : viewOf (storedState (storedName 0) 1) ≡ holds (started onlyA)
+  pub free : viewOf (storedState fit fit) ≡ holds (started onlyA)
+  pub free-zero : viewOf (storedState (storedMemory (storedName 0) 1) fit) ≡ holds (started onlyA)
   pub answered-as : lineAnswer (holds (started onlyA)) (ascii "KLN?") (lent 4096)
       ≡ ofOutcome (answered (started onlyA) (ascii "ZERO=ZERO \nPI_BASE=HEXAPOD \nPI_LEVELLING=HEXAPOD \nA=ZERO\n") (lent 4096))
-  -- [Error 1] a count or a length beyond its array: the state and the buffer come back as they were, from every call
-  pub count-beyond : lineAnswer (viewOf (storedState (storedName 0) 17)) (ascii "KLN?") (lent 4096)
-      ≡ record { state = shapeless (storedState (storedName 0) 17); number = 1; count = 0; buffer = lent 4096 }
-  pub length-beyond : lineAnswer (viewOf (storedState (record { bytes = replicate 16 65; len = 17 }) 1)) (ascii "KLN?") (lent 4096)
-      ≡ record { state = shapeless (storedState (record { bytes = replicate 16 65; len = 17 }) 1); number = 1; count = 0; buffer = lent 4096 }
-  pub no-image : imageAnswer (viewOf (storedState (storedName 0) 17)) (lent 4096)
-      ≡ record { state = shapeless (storedState (storedName 0) 17); number = 1; count = 0; buffer = lent 4096 }
-  pub no-restart : restartAnswer (viewOf (storedState (storedName 0) 17)) ≡ record { state = shapeless (storedState (storedName 0) 17); number = 1 }
+  -- [Error 1] a count or a length beyond its array, in either memory: the state and the buffer come back as they were, from every call
+  pub count-beyond : lineAnswer (viewOf (storedState miscounted fit)) (ascii "KLN?") (lent 4096)
+      ≡ record { state = shapeless (storedState miscounted fit); number = 1; count = 0; buffer = lent 4096 }
+  pub length-beyond : lineAnswer (viewOf (storedState fit overnamed)) (ascii "KLN?") (lent 4096)
+      ≡ record { state = shapeless (storedState fit overnamed); number = 1; count = 0; buffer = lent 4096 }
+  pub no-image : imageAnswer (viewOf (storedState fit miscounted)) (lent 4096)
+      ≡ record { state = shapeless (storedState fit miscounted); number = 1; count = 0; buffer = lent 4096 }
+  pub no-restart : restartAnswer (viewOf (storedState overnamed fit)) ≡ record { state = shapeless (storedState overnamed fit); number = 1 }
 
 -- ---- all
 
