@@ -2,7 +2,14 @@
 use mathlib.Core.Path.{refl}
 use Rattle.model.specs.Stored.{memoryShaped, shaped, viewOf, lineAnswer, imageAnswer, restartAnswer}
 use Rattle.model.specs.Sessions.{hexSpelled, hex, sent, comes, otherwise}
-use Rattle.model.specs.Examples.{Examples, OfMemories, OfPoses, OfLines, OfCommands, OfLists, OfNumbers, OfImages, OfHistories, OfStorage}
+use Rattle.model.specs.Examples.{Examples}
+use Rattle.model.specs.Examples.Memories.{OfMemories, OfPoses}
+use Rattle.model.specs.Examples.Lines.{OfLines}
+use Rattle.model.specs.Examples.Commands.{OfCommands, OfLists}
+use Rattle.model.specs.Examples.Numbers.{OfNumbers}
+use Rattle.model.specs.Examples.Images.{OfImages}
+use Rattle.model.specs.Examples.Histories.{OfHistories}
+use Rattle.model.specs.Examples.Storage.{OfStorage}
 use Rattle.model.proofs.Open.{definitions-open}
 
 unfoldable sessions-open : Unit {0}

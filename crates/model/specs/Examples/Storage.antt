@@ -1,0 +1,51 @@
+-- Document 01, "Empty programs": stored values, by examples.
+use mathlib.Core.Path.{_≡_}
+use Rattle.model.specs.Base.{ℕ, [], _∷_, replicate}
+use Rattle.model.specs.Types.{Ksd, Name, StoredMemory, StoredState}
+use Rattle.model.specs.Ascii.{ascii}
+use Rattle.model.specs.Pose.{origin}
+use Rattle.model.specs.Memory.{Memory, factory, started, noTurn}
+use Rattle.model.specs.Machine.{answered}
+use Rattle.model.specs.Stored.{shapeless, holds, viewOf, ofOutcome, lineAnswer, imageAnswer, restartAnswer}
+use Rattle.model.specs.Sessions.{lent}
+
+-- A as it is stored, with this byte behind its name
+abbrev pub storedName : ℕ → Name
+storedName free = record { bytes = 65 ∷ replicate 15 free; len = 1 }
+
+-- all places taken by systems of one name, so many of them counted
+abbrev pub storedMemory : Name → ℕ → StoredMemory
+storedMemory n count =
+    record { systems = replicate 16 (record { kind = Ksd; name = n; offset = origin; turns = noTurn; pred = 0 }); count = count; enabled = factory .enabled }
+
+abbrev pub storedState : StoredMemory → StoredMemory → StoredState
+storedState v p = record { volatile = v; permanent = p; level = 0; error = 0 }
+
+-- a memory with A alone; one whose count and one whose name goes beyond its array
+abbrev pub fit : StoredMemory
+fit = storedMemory (storedName 66) 1
+
+abbrev pub miscounted : StoredMemory
+miscounted = storedMemory (storedName 66) 17
+
+abbrev pub overnamed : StoredMemory
+overnamed = storedMemory (record { bytes = replicate 16 65; len = 17 }) 1
+
+-- A alone
+abbrev pub onlyA : Memory
+onlyA = record { systems = record { kind = Ksd; name = ascii "A"; offset = origin; turns = noTurn; pred = 0 } ∷ []; enabled = factory .enabled }
+
+pub record OfStorage : Type 0 where
+  -- [Empty programs, end] what lies behind a name or behind the last system is free
+  pub free : viewOf (storedState fit fit) ≡ holds (started onlyA)
+  pub free-zero : viewOf (storedState (storedMemory (storedName 0) 1) fit) ≡ holds (started onlyA)
+  pub answered-as : lineAnswer (holds (started onlyA)) (ascii "KLN?") (lent 4096)
+      ≡ ofOutcome (answered (started onlyA) (ascii "ZERO=ZERO \nPI_BASE=HEXAPOD \nPI_LEVELLING=HEXAPOD \nA=ZERO\n") (lent 4096))
+  -- [Error 1] a count or a length beyond its array, in either memory: the state and the buffer come back as they were, from every call
+  pub count-beyond : lineAnswer (viewOf (storedState miscounted fit)) (ascii "KLN?") (lent 4096)
+      ≡ record { state = shapeless (storedState miscounted fit); number = 1; count = 0; buffer = lent 4096 }
+  pub length-beyond : lineAnswer (viewOf (storedState fit overnamed)) (ascii "KLN?") (lent 4096)
+      ≡ record { state = shapeless (storedState fit overnamed); number = 1; count = 0; buffer = lent 4096 }
+  pub no-image : imageAnswer (viewOf (storedState fit miscounted)) (lent 4096)
+      ≡ record { state = shapeless (storedState fit miscounted); number = 1; count = 0; buffer = lent 4096 }
+  pub no-restart : restartAnswer (viewOf (storedState overnamed fit)) ≡ record { state = shapeless (storedState overnamed fit); number = 1 }
