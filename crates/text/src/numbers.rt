@@ -33,8 +33,8 @@ pub enum Value {
 fn first_digit(minus: bool, b: u8) -> Num
     ensures { λ r. ⌜ r ≡ first minus b ⌝ }
 {
-    if between(48, 57, b) {
-        return Num::Whole(minus, 1, wide(b - 48));
+    if between(b'0', b'9', b) {
+        return Num::Whole(minus, 1, wide(b - b'0'));
     }
     Num::Wrong
 }
@@ -43,12 +43,12 @@ fn whole_digit(minus: bool, k: u8, v: u64, b: u8) -> Num
     requires { ⌜ Good (Num.Whole minus k v) ⌝ }
     ensures { λ r. ⌜ r ≡ stepped (Num.Whole minus k v) b ⌝ }
 {
-    if b == 46 {
+    if b == b'.' {
         return Num::Point(minus, v * MILLION);
     }
-    if between(48, 57, b) {
+    if between(b'0', b'9', b) {
         if k < WHOLE_DIGITS {
-            return Num::Whole(minus, k + 1, 10 * v + wide(b - 48));
+            return Num::Whole(minus, k + 1, 10 * v + wide(b - b'0'));
         }
     }
     Num::Wrong
@@ -58,8 +58,8 @@ fn part_digit(minus: bool, v: u64, w: u64, b: u8) -> Num
     requires { ⌜ Good (Num.Part minus v w) ⌝ }
     ensures { λ r. ⌜ r ≡ part minus v w b ⌝ }
 {
-    if between(48, 57, b) {
-        return Num::Part(minus, v + wide(b - 48) * w, w / 10);
+    if between(b'0', b'9', b) {
+        return Num::Part(minus, v + wide(b - b'0') * w, w / 10);
     }
     Num::Wrong
 }
@@ -71,7 +71,7 @@ pub(crate) fn step(n: Num, b: u8) -> Num
 {
     match n {
         Num::Start => {
-            if b == 45 {
+            if b == b'-' {
                 Num::Minus
             } else {
                 first_digit(false, b)
