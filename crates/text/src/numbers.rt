@@ -5,8 +5,7 @@ use facts::limits::MILLION;
 use facts::limits::WHOLE_DIGITS;
 use signed::wide;
 ghost use mathlib.Core.Path.{_≡_};
-ghost use Rattle.model.specs.Told.{orNumber};
-ghost use Rattle.text.specs.Numbers.{part, first, stepped, Good, wrong, valued, valueTold};
+ghost use Rattle.text.specs.Numbers.{part, first, stepped, Good, wrong, numTold, valueTold};
 
 // The first decimal of one, in millionths.
 const FIRST_DECIMAL: u64 = MILLION / 10;
@@ -107,7 +106,7 @@ pub(crate) fn is_wrong(n: Num) -> bool
 
 pub(crate) fn value_of(n: Num) -> Value
     requires { ⌜ Good n ⌝ }
-    ensures { λ r. ⌜ valueTold r ≡ orNumber 5 (valued n) ⌝ }
+    ensures { λ r. ⌜ valueTold r ≡ numTold n ⌝ }
 {
     match n {
         Num::Start => Value::Malformed,
