@@ -113,7 +113,7 @@ otherwise st (t ∷ ts) = let c = comes st t in elim (alike (c .answer) (told t)
 abbrev pub Session : List Turn → Type 0
 Session ts = otherwise startFactory ts ≡ none
 
--- sixteen definitions
+-- fifteen and sixteen definitions
 abbrev pub fifteen : List String
 fifteen =
     "KSD A" ∷ "KSD B" ∷ "KSD C" ∷ "KSD D" ∷ "KSD E" ∷ "KSD F" ∷ "KSD G" ∷ "KSD H" ∷ "KSD I" ∷ "KSD J" ∷ "KSD K" ∷ "KSD L" ∷ "KSD M"

@@ -87,7 +87,7 @@ of-histories = record { still = refl; prints = refl }
 
 of-storage : OfStorage
 unfolding sessions-open
-of-storage = record { free = refl; free-zero = refl; answered-as = refl; count-beyond = refl; length-beyond = refl; no-image = refl; no-restart = refl }
+of-storage = record { parts = refl; free = refl; free-zero = refl; answered-as = refl; count-beyond = refl; length-beyond = refl; no-image = refl; no-restart = refl }
 
 pub examples : Examples
 examples =

@@ -31,9 +31,10 @@ pub record OfCommands : Type 0 where
       ∷ "KEN N" ⇒ taken ∷ "KEN?" ⇒ replies "N=KSW \nZERO=ZERO \nPI_BASE=KSB(PI) \nPI_LEVELLING=KLD(PI)\n" ∷ [])
   -- [Commands, KRM] the systems behind move up, and links and what is enabled go with them
   pub remove : Session (
-      "KSW A" ⇒ taken ∷ "KSW B" ⇒ taken ∷ "KSW C" ⇒ taken ∷ "KST T" ⇒ taken ∷ "KLN B A" ⇒ taken ∷ "KEN C" ⇒ taken ∷ "KEN T" ⇒ taken ∷ "KRM A" ⇒ taken
-      ∷ "KLN?" ⇒ replies "ZERO=ZERO \nPI_BASE=HEXAPOD \nPI_LEVELLING=HEXAPOD \nB=ZERO \nC=ZERO \nT=ZERO\n"
-      ∷ "KEN?" ⇒ replies "C=KSW \nT=KST \nPI_BASE=KSB(PI) \nPI_LEVELLING=KLD(PI)\n" ∷ "KRM A" ⇒ number 7 ∷ [])
+      "CCL 1 ADVANCED" ⇒ taken ∷ "KSW A" ⇒ taken ∷ "KSW B" ⇒ taken ∷ "KSW C" ⇒ taken ∷ "KST T" ⇒ taken ∷ "KSB O" ⇒ taken ∷ "KLD L" ⇒ taken ∷ "KLN B A" ⇒ taken
+      ∷ "KEN C" ⇒ taken ∷ "KEN T" ⇒ taken ∷ "KEN O" ⇒ taken ∷ "KEN L" ⇒ taken ∷ "KRM A" ⇒ taken
+      ∷ "KLN?" ⇒ replies "ZERO=ZERO \nPI_BASE=HEXAPOD \nPI_LEVELLING=HEXAPOD \nB=ZERO \nC=ZERO \nT=ZERO \nO=PI_BASE \nL=PI_LEVELLING\n"
+      ∷ "KEN?" ⇒ replies "C=KSW \nT=KST \nO=KSB(USER) \nL=KLD(USER)\n" ∷ "KRM A" ⇒ number 7 ∷ [])
   -- [Commands, KEN] ZERO takes the place of a pair; at level 1, and only there, it brings PI_LEVELLING with it
   pub enable-zero : Session (
       "CCL 1 ADVANCED" ⇒ taken ∷ "KSW W" ⇒ taken ∷ "KSB B" ⇒ taken ∷ "KLD L" ⇒ taken ∷ "KEN W" ⇒ taken ∷ "KEN B" ⇒ taken ∷ "KEN L" ⇒ taken

@@ -29,18 +29,30 @@ pub record OfImages : Type 0 where
       ∷ "KLN?" ⇒ replies "ZERO=ZERO \nPI_BASE=HEXAPOD \nPI_LEVELLING=HEXAPOD\n" ∷ writes (hex "01 00 00 00 00 00")
       ∷ starts (hex "01 00 00 00 00") 14 ∷ starts (hex "01 00 00 00 00 00 00") 14 ∷ starts (hex "02 00 00 00 00 00") 14 ∷ starts (hex "00 00 00 00 00 00") 14
       ∷ starts (hex "01 80 00 00 00 00 00") 14 ∷ starts (hex "01 00 02 00 00 00 00") 14 ∷ starts (hex "01 00 00 00 00 00") 0 ∷ [])
-  -- [Error 14; Memory 4] the image of a memory that is not well formed: what is wrong with A, where the first one is as it should be
+  -- [Error 14; Memory 4] an image of A that is accepted; then one thing wrong with the memory each time
   pub refused-systems : Session (
       starts (hex "01 01 01 01 41 00 00 00 00 00 00 00 00 01 00 00") 0
-      ∷ starts (hex "01 01 00 01 41 00 00 00 00 00 00 00 00 01 00 00") 14 ∷ starts (hex "01 01 06 01 41 00 00 00 00 00 00 00 00 01 00 00") 14  -- the type
-      ∷ starts (hex "01 01 01 01 61 00 00 00 00 00 00 00 00 01 00 00") 14 ∷ starts (hex "01 01 01 04 5A 45 52 4F 00 00 00 00 00 00 00 00 01 00 00") 14  -- the name
-      ∷ starts (hex "01 01 01 01 41 82 A8 D6 B9 07 00 00 00 00 00 00 00 01 00 00") 14 ∷ starts (hex "01 01 01 01 41 00 00 00 04 00 00 00 00 01 00 00") 14  -- offset, turn
-      ∷ starts (hex "01 01 01 01 41 00 00 00 00 00 00 01 00 01 00 00") 14 ∷ starts (hex "01 01 01 01 41 00 00 00 00 00 00 02 00 01 00 00") 14  -- the predecessor
-      ∷ starts (hex "01 01 04 01 41 02 00 00 00 00 00 00 00 00 00 00") 14  -- a KSB with an offset
-      ∷ starts (hex "01 02 01 01 41 00 00 00 00 00 00 00 01 01 41 00 00 00 00 00 00 00 00 01 00 00") 14  -- two of one name
-      ∷ starts (hex "01 02 01 01 41 00 00 00 00 00 00 00 03 01 42 00 00 00 00 00 00 01 00 01 00 00") 14  -- a KSW on a KSD
-      ∷ starts (hex "01 02 01 01 41 00 00 00 00 00 00 02 01 01 42 00 00 00 00 00 00 01 00 01 00 00") 14  -- a ring of two
-      ∷ [])
+      -- the type
+      ∷ starts (hex "01 01 00 01 41 00 00 00 00 00 00 00 00 01 00 00") 14 ∷ starts (hex "01 01 06 01 41 00 00 00 00 00 00 00 00 01 00 00") 14
+      -- the name: in small letters, none, reserved
+      ∷ starts (hex "01 01 01 01 61 00 00 00 00 00 00 00 00 01 00 00") 14 ∷ starts (hex "01 01 01 00 00 00 00 00 00 00 00 00 01 00 00") 14
+      ∷ starts (hex "01 01 01 04 5A 45 52 4F 00 00 00 00 00 00 00 00 01 00 00") 14
+      -- X, Y, Z beyond the limit
+      ∷ starts (hex "01 01 01 01 41 82 A8 D6 B9 07 00 00 00 00 00 00 00 01 00 00") 14 ∷ starts (hex "01 01 01 01 41 00 82 A8 D6 B9 07 00 00 00 00 00 00 01 00 00") 14
+      ∷ starts (hex "01 01 01 01 41 00 00 82 A8 D6 B9 07 00 00 00 00 00 01 00 00") 14
+      -- four quarter turns of U, V, W
+      ∷ starts (hex "01 01 01 01 41 00 00 00 04 00 00 00 00 01 00 00") 14 ∷ starts (hex "01 01 01 01 41 00 00 00 00 04 00 00 00 01 00 00") 14
+      ∷ starts (hex "01 01 01 01 41 00 00 00 00 00 04 00 00 01 00 00") 14
+      -- the predecessor: A itself, and none there
+      ∷ starts (hex "01 01 01 01 41 00 00 00 00 00 00 01 00 01 00 00") 14 ∷ starts (hex "01 01 01 01 41 00 00 00 00 00 00 02 00 01 00 00") 14
+      -- a KSB, and with an X, a Y, a Z
+      ∷ starts (hex "01 01 04 01 41 00 00 00 00 00 00 00 00 00 00 00") 0 ∷ starts (hex "01 01 04 01 41 02 00 00 00 00 00 00 00 00 00 00") 14 ∷ starts (hex "01 01 04 01 41 00 02 00 00 00 00 00 00 00 00 00") 14
+      ∷ starts (hex "01 01 04 01 41 00 00 02 00 00 00 00 00 00 00 00") 14
+      -- B on A; then two of one name, a KSW on a KSD, a ring of two
+      ∷ starts (hex "01 02 01 01 41 00 00 00 00 00 00 00 01 01 42 00 00 00 00 00 00 01 00 01 00 00") 0
+      ∷ starts (hex "01 02 01 01 41 00 00 00 00 00 00 00 01 01 41 00 00 00 00 00 00 00 00 01 00 00") 14
+      ∷ starts (hex "01 02 01 01 41 00 00 00 00 00 00 00 03 01 42 00 00 00 00 00 00 01 00 01 00 00") 14
+      ∷ starts (hex "01 02 01 01 41 00 00 00 00 00 00 02 01 01 42 00 00 00 00 00 00 01 00 01 00 00") 14 ∷ [])
   -- [Error 14; Memory 3] what may not be enabled: a tool alone, a pair of two ZEROs, a KSD as work, a KSD as KSB, a system that is not there
   pub refused-enabled : Session (
       starts (hex "01 01 02 01 41 00 00 00 00 00 00 00 01 00 01 00 00") 0 ∷ starts (hex "01 01 02 01 41 00 00 00 00 00 00 00 00 01 00 00") 14

@@ -1,10 +1,10 @@
 -- Document 01, "Empty programs": stored values, by examples.
 use mathlib.Core.Path.{_≡_}
-use Rattle.model.specs.Base.{ℕ, [], _∷_, replicate}
-use Rattle.model.specs.Types.{Ksd, Name, StoredMemory, StoredState}
+use Rattle.model.specs.Base.{ℕ, [], _∷_, pos, negsuc, replicate}
+use Rattle.model.specs.Types.{Ksd, Kst, Enabled, Pair, Name, StoredSystem, StoredMemory, StoredState}
 use Rattle.model.specs.Ascii.{ascii}
 use Rattle.model.specs.Pose.{origin}
-use Rattle.model.specs.Memory.{Memory, factory, started, noTurn}
+use Rattle.model.specs.Memory.{System, Memory, factory, started, noTurn}
 use Rattle.model.specs.Machine.{answered}
 use Rattle.model.specs.Stored.{shapeless, holds, viewOf, ofOutcome, lineAnswer, imageAnswer, restartAnswer}
 use Rattle.model.specs.Sessions.{lent}
@@ -35,7 +35,27 @@ overnamed = storedMemory (record { bytes = replicate 16 65; len = 17 }) 1
 abbrev pub onlyA : Memory
 onlyA = record { systems = record { kind = Ksd; name = ascii "A"; offset = origin; turns = noTurn; pred = 0 } ∷ []; enabled = factory .enabled }
 
+-- T with values that all differ, as it is stored and as it is; and places of which no two are the same
+abbrev pub storedT : StoredSystem
+storedT =
+    record {
+      kind = Kst;
+      name = record { bytes = 84 ∷ replicate 15 66; len = 1 };
+      offset = record { x = pos 10; y = pos 20; z = negsuc 30 };
+      turns = record { u = 1; v = 2; w = 3 };
+      pred = 4;
+    }
+
+abbrev pub onlyT : System
+onlyT = record { kind = Kst; name = ascii "T"; offset = record { x = pos 10; y = pos 20; z = negsuc 30 }; turns = record { u = 1; v = 2; w = 3 }; pred = 4 }
+
+abbrev pub pairOf : Enabled
+pairOf = record { operating = Pair 5 6; orientational = 7; levelling = 8 }
+
 pub record OfStorage : Type 0 where
+  -- [Memory 2, 4] a stored state stands for its parts
+  pub parts : viewOf (record { volatile = storedMemory (storedName 66) 0; permanent = record { systems = replicate 16 storedT; count = 1; enabled = pairOf }; level = 1; error = 5 })
+      ≡ holds (record { volatile = factory; permanent = record { systems = onlyT ∷ []; enabled = pairOf }; level = 1; error = 5 })
   -- [Empty programs, end] what lies behind a name or behind the last system is free
   pub free : viewOf (storedState fit fit) ≡ holds (started onlyA)
   pub free-zero : viewOf (storedState (storedMemory (storedName 0) 1) fit) ≡ holds (started onlyA)
