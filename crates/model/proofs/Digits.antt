@@ -35,7 +35,7 @@ ten-grows : (k : ℕ) → k < 10 ^ k
 ten-grows zero = omega arith
 ten-grows (suc k) = rw (pow-suc 10 k) (omega (arith, ten-grows k))
 
-ten-monotone : (i k : ℕ) → i ≤ k → 10 ^ i ≤ 10 ^ k
+pub ten-monotone : (i k : ℕ) → i ≤ k → 10 ^ i ≤ 10 ^ k
 ten-monotone i k h = pow-le-pow-right (omega arith) h
 
 -- the test of `digitsOf`

@@ -102,6 +102,18 @@ fn put_short(out: &mut [u8], at: usize, n: u64) -> usize
 }
 
 // Without leading zeros: all but the last four digits first, as many as there are.
+fn put_long(out: &mut [u8], at: usize, n: u64) -> usize
+    requires { ⌜ at + length (decimal n) ≤ length (now out) ⌝ }
+    ensures { λ r. ⌜ Wrote (decimal n) (now (out .entry)) at (now (out .exit)) r ⌝ }
+{
+    if n < 10000 {
+        return put_short(out, at, n);
+    }
+    let i = put_long(out, at, n / 10000);
+    put_four(out, i, n)
+}
+
+// Every whole number without leading zeros. Up to four digits are tried first, outside the recursion, so that they can be written where they are asked for.
 pub fn put_decimal(out: &mut [u8], at: usize, n: u64) -> usize
     requires { ⌜ at + length (decimal n) ≤ length (now out) ⌝ }
     ensures { λ r. ⌜ Wrote (decimal n) (now (out .entry)) at (now (out .exit)) r ⌝ }
@@ -109,8 +121,7 @@ pub fn put_decimal(out: &mut [u8], at: usize, n: u64) -> usize
     if n < 10000 {
         return put_short(out, at, n);
     }
-    let i = put_decimal(out, at, n / 10000);
-    put_four(out, i, n)
+    put_long(out, at, n)
 }
 
 // m millionths with six decimals.

@@ -1,16 +1,15 @@
 // A number, byte by byte: an optional minus, digits, and perhaps a point and decimals, into whole millionths.
 use super::values::signed;
 use super::words::between;
+use facts::limits::MILLION;
+use facts::limits::WHOLE_DIGITS;
 use signed::wide;
 ghost use mathlib.Core.Path.{_≡_};
-ghost use Rattle.text.specs.Numbers.{part, first, stepped, Good, wrong, valued, optionOf};
+ghost use Rattle.model.specs.Told.{orNumber};
+ghost use Rattle.text.specs.Numbers.{part, first, stepped, Good, wrong, valued, valueTold};
 
-// Digits before the point.
-const WHOLE_DIGITS: u8 = 4;
-// One, in millionths.
-const MILLION: u64 = 1000000;
 // The first decimal of one, in millionths.
-const FIRST_DECIMAL: u64 = 100000;
+const FIRST_DECIMAL: u64 = MILLION / 10;
 
 // What the bytes of a number read so far are.
 pub enum Num {
@@ -25,7 +24,7 @@ pub enum Num {
     Wrong,
 }
 
-// What a whole word says, in millionths.
+// What a whole word says: a number, in millionths, or 5.
 pub enum Value {
     Millionths(i64),
     Malformed,
@@ -108,7 +107,7 @@ pub(crate) fn is_wrong(n: Num) -> bool
 
 pub(crate) fn value_of(n: Num) -> Value
     requires { ⌜ Good n ⌝ }
-    ensures { λ r. ⌜ optionOf r ≡ valued n ⌝ }
+    ensures { λ r. ⌜ valueTold r ≡ orNumber 5 (valued n) ⌝ }
 {
     match n {
         Num::Start => Value::Malformed,
