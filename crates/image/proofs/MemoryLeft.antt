@@ -19,7 +19,6 @@ use Rattle.model.proofs.Basics.{all-at}
 use Rattle.model.proofs.Image.Limits.{system-within, parts}
 use Rattle.memory.proofs.Laws.{getD-any, length-systems, system-at}
 use Rattle.memory.proofs.Shape.{shaped-count}
-use Rattle.image.proofs.Puts.{Left, left-all}
 
 code-large : (z : ℤ) → natAbs z ≤ signedCode z + 1
 code-large (pos n) = omega arith
@@ -60,15 +59,7 @@ module _ (m : StoredMemory) (long : length (m .systems) ≡ 16) (shaped : memory
       let o = getD (m .systems) i d .offset in
       (omega (arith, w .x, code-large (o .x)), omega (arith, w .y, code-large (o .y)), omega (arith, w .z, code-large (o .z)))
 
-  -- the parts of the image that are left to write
-  abbrev pub last-part : List ℕ
-  last-part = enabledBytes (m .enabled) ++ []
-
-  abbrev pub after-head : List ℕ
-  after-head = joined (map systemBytes (systemsOf m)) ++ last-part
-
-  pub image-left : (b : List ℕ) → Left (image (memoryOf m)) 0 b (numbers (edition ∷ m .count ∷ []) ++ after-head) 0 b
+  -- the parts of the image
+  pub image-parts : image (memoryOf m) ≡ numbers (edition ∷ m .count ∷ []) ++ (joined (map systemBytes (systemsOf m)) ++ (enabledBytes (m .enabled) ++ []))
   unfolding image joined
-  image-left b =
-      let e : numbers (edition ∷ m .count ∷ []) ≡ numbers (edition ∷ length (systemsOf m) ∷ []) = ap (λ (n : ℕ). numbers (edition ∷ n ∷ [])) (sym stored-count) in
-      rw e (left-all (image (memoryOf m)) 0 b)
+  image-parts = rw stored-count
