@@ -17,6 +17,9 @@ use Rattle.memory.proofs.fine.state_fine.Reads as state-fine-reads
 state-fine-requires : tie.Need-state-fine-requires
 state-fine-requires c κs = search needs
 
+refusing-requires : tie.Need-refusing-requires
+refusing-requires c κs = search needs
+
 returns : tie.Need-returns
 returns c =
     let start = c .before .before .before in
