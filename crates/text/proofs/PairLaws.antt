@@ -29,6 +29,15 @@ unfoldable pub placeIn : List (List ℕ) → List ℕ → ℕ
 placeIn [] w = 0
 placeIn (t ∷ ts) w = cond (same w t) 0 (suc (placeIn ts w))
 
+module _ (t : List ℕ) (ts : List (List ℕ)) (w : List ℕ) where
+  pub place-hit : same w t ≡ true → placeIn (t ∷ ts) w ≡ 0
+  unfolding placeIn
+  place-hit e = rw e
+
+  pub place-miss : same w t ≡ false → placeIn (t ∷ ts) w ≡ suc (placeIn ts w)
+  unfolding placeIn
+  place-miss e = rw e
+
 least-place : (ts : List (List ℕ)) (w : List ℕ) → least (length ts) (λ i. same w (getD ts i [])) ≡ placeIn ts w
 unfolding placeIn least
 least-place [] w = refl

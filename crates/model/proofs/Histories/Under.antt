@@ -1,4 +1,4 @@
--- The checklist's third item: a system that is enabled, or on the chain of an enabled one, is neither redefined, linked, copied over nor removed.
+-- The checklist's third item: what is in use is neither redefined, linked, copied over nor removed.
 use Prim.Native.Nat.{ℕ, suc, _≤_, _<_}
 use mathlib.Core.Path.{_≡_, sym, ap, _∙_}
 use mathlib.Core.List.{List, [], _∷_, _++_, map}

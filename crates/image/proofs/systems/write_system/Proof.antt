@@ -51,7 +51,10 @@ module _ (c : tie.After-turned-of) where
 
   all-left : LeftOf (head ++ (name ++ (offsets ++ (turned ++ [])))) (start .args .at) (start .args .out .now)
   all-left =
-      rw (system-parts (start .args .s) _ _ _ long short (c .before .before .head-of .ensures) (c .before .offsets-of .ensures) (c .turned-of .ensures)) (left-all _ (start .args .at) (start .args .out .now))
+      let h = c .before .before .head-of in
+      let o = c .before .offsets-of in
+      let t = c .turned-of in
+      rw (system-parts (start .args .s) (h .result) (o .result) (t .result) long short (h .ensures) (o .ensures) (t .ensures)) (left-all _ (start .args .at) (start .args .out .now))
 
   room : (x rest : List ℕ) (i : ℕ) (a : List ℕ) → LeftOf (x ++ rest) i a → i + length x ≤ length a
   room x rest i a l = left-fits x rest l (start .pre .0 .1)

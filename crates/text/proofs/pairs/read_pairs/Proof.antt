@@ -14,6 +14,7 @@ use lib.ListN.{length, drop, getD, set, length-set, length-drop}
 use Rattle.model.specs.declared.Kind.{Kind}
 use Rattle.model.specs.Request.{Values, noValues, axis, mayCome, pairs}
 use Rattle.model.specs.Told.{refuses}
+use Rattle.model.proofs.Told.{told-value}
 use Rattle.text.specs.Cursor.{run, wordOf, wordsFrom, Within}
 use Rattle.text.specs.declared.numbers.Num.{Num}
 use Rattle.text.specs.declared.numbers.Num.the-variants.{Start}
@@ -23,7 +24,6 @@ use Rattle.text.proofs.NumberBytes.{rest, fold-next, fold-end, fold-wro
 use Rattle.text.proofs.NumberRange.{good-stepped}
 use Rattle.text.proofs.PairLaws.{Clean, none-yet, clean-set, came-set, ranged-values, may-axis}
 use Rattle.text.proofs.PairWords.{line-end, line-axis, line-number, line-on}
-use Rattle.text.proofs.ValueLaws.{told-value}
 use Rattle.text.proofs.WordLaws.{startFrom, word-within, word-on, lead-le, lead-end, run-next, run-stop}
 use Rattle.text.proofs.pairs.read_pairs.Statement.{statement}
 use Rattle.text.proofs.pairs.read_pairs.Tie as tie
