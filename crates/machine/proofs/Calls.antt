@@ -15,7 +15,8 @@ use Rattle.model.proofs.Ladder.Exact.{start-none, start-some}
 use Rattle.image.specs.declared.ImageRead.{ImageRead}
 use Rattle.image.specs.Accepted.{Answers}
 use Rattle.machine.specs.Calls.{startedWith, begunOf}
-use Rattle.engine.proofs.Views.{view-holds, shape-both, shape-parts}
+use Rattle.memory.proofs.Shape.{shape-both, shape-parts}
+use Rattle.engine.proofs.Views.{view-holds}
 
 module _ (s : StoredState) (f : FineState s) where
   pub line-fine : (l b : List ℕ) → lineAnswer (viewOf s) l b ≡ ofOutcome (stepped (stateOf s) l b)
