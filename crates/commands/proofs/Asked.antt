@@ -12,13 +12,13 @@ use Rattle.model.specs.Memory.{System, Memory, Ref, Meant, refOr, find, systemA
 use Rattle.model.specs.Use.{usedAt}
 use Rattle.model.specs.Refusals.{atOrBefore}
 use Rattle.model.proofs.Memories.Named.{named-place}
+use Rattle.model.proofs.Told.{told-value}
 use Rattle.chains.specs.Flat.{predsOf, linkedBy, memoryBy}
 use Rattle.chains.proofs.Same.{links-on-chain, links-in-use}
 use Rattle.memory.specs.declared.find.Found.{Found}
 use Rattle.memory.specs.declared.find.Found.the-variants.{User, Fixed, Absent}
 use Rattle.memory.specs.Found.{foundTold, foundRef, foundPlace}
 use Rattle.memory.specs.Put.{holding}
-use Rattle.memory.proofs.ByName.{found-ref}
 use Rattle.commands.specs.declared.subject.Subject.{Subject}
 use Rattle.commands.specs.Subject.{Tells}
 
@@ -41,7 +41,7 @@ module _ (m : Memory) (n : List ℕ) (x : Subject) (t : Tells m n x) where
 
   -- the system that was found
   pub found-is : foundRef (m .systems) (x .found) ≡ find m n
-  found-is = found-ref (m .systems) (x .found) (find m n) (t .found-is)
+  found-is = sym (told-value 7 (find m n) (foundTold (m .systems) (x .found)) (t .found-is))
 
   -- the type of what was found
   pub found-kind : x .kind ≡ systemAt (m .systems) (foundPlace (x .found)) .kind

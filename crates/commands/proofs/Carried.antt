@@ -7,6 +7,7 @@ use native.Mathlib.Omega.{arith}
 use borrow.Author.Tests.{eq-eqb, ne-eqb, leb-false}
 use lib.Dec.{eqb}
 use lib.ListN.{length}
+use Rattle.model.specs.Limits.{maxSystems}
 use Rattle.model.specs.declared.Kind.{Kind}
 use Rattle.model.specs.declared.Vec3.{Vec3}
 use Rattle.model.specs.declared.Turns.{Turns}
@@ -71,7 +72,7 @@ module _ (s : StoredState) (c : Change) (n : ℕ) (e : n ≡ first (changeLadder
       }
 
   -- x is put at the place k
-  pub decides-put : (d : Decision) (k : ℕ) (x : StoredSystem) → n ≡ 0 → d ≡ record { number = 0; deed = Put k; system = x } → nameShaped x ≡ true → (k ≤ 16) × (k ≡ 0 → s .volatile .count < 16) → withVolatile st (putAt (st .volatile) k (systemOf x)) ≡ changed st (st .volatile) c → Decides s c d
+  pub decides-put : (d : Decision) (k : ℕ) (x : StoredSystem) → n ≡ 0 → d ≡ record { number = 0; deed = Put k; system = x } → nameShaped x ≡ true → (k ≤ maxSystems) × (k ≡ 0 → s .volatile .count < maxSystems) → withVolatile st (putAt (st .volatile) k (systemOf x)) ≡ changed st (st .volatile) c → Decides s c d
   unfolding done Fits
   decides-put d k x z p named f q = rw p (decides-accepted (record { number = 0; deed = Put k; system = x }) (Put k) z (refl, refl, named) f q)
 
@@ -132,13 +133,13 @@ module _ (st : State) (m : Memory) where
 
 -- what was seen of a memory, and a name that was looked for in it
 module _ (m : StoredMemory) (x y : List ℕ) (k : Looked) (s : Sees m x y k) (n : List ℕ) where
-  pub place-few : placeNamed (systemsOf m) n ≤ 16
+  pub place-few : placeNamed (systemsOf m) n ≤ maxSystems
   place-few = omega (arith, place-within (systemsOf m) n, s .counted, s .links .few)
 
   -- one place is free for a new name that passed number 13
-  pub room : noRoom (systemsOf m) (placeNamed (systemsOf m) n) ≡ false → placeNamed (systemsOf m) n ≡ 0 → m .count < 16
+  pub room : noRoom (systemsOf m) (placeNamed (systemsOf m) n) ≡ false → placeNamed (systemsOf m) n ≡ 0 → m .count < maxSystems
   unfolding noRoom
-  room e z = rw (s .stored) (leb-false 16 (length (systemsOf m)) (rw z at e))
+  room e z = rw (s .stored) (leb-false maxSystems (length (systemsOf m)) (rw z at e))
 
 -- a definition is put at the place of its name
 pub defined-by-place : (m : Memory) (k : Kind) (n : List ℕ) (t : Vec3) (u : Turns) → put m (fresh m k n t u) ≡ putAt m (placeNamed (m .systems) n) (fresh m k n t u)

@@ -37,7 +37,7 @@ pub fn other_type(x: Subject, k: Kind) -> bool
     (0 < x.place) & (code_of(own) != code_of(k))
 }
 
-// B is neither of A's type nor its group's fixed system.
+// B fits under A neither by its type nor as the fixed system.
 pub fn wrong_pred(a: Subject, b: Subject) -> bool
     ensures { λ r. ⌜ r ≡ wrongPred (meantOf a) (meantOf b) ⌝ }
 {

@@ -1,25 +1,12 @@
--- For callers: the definitions go by name, the code by what was found and by the place that the name has.
+-- For callers: the edits of the definitions go by name, those of the code by the place that the name has.
 use Prim.Native.Nat.{ℕ}
 use mathlib.Core.Path.{_≡_, refl, ap, _∙_}
 use mathlib.Core.Bool.{true}
 use mathlib.Core.List.{List}
-use mathlib.Core.Option.{Option, none, some}
-use Rattle.model.specs.Memory.{System, Memory, Ref, systemAt, placeNamed, isUser, named, userNamed}
+use Rattle.model.specs.Memory.{System, Memory, systemAt, placeNamed, isUser, named, userNamed}
 use Rattle.model.specs.Effects.{put, linked, withPred, withName}
 use Rattle.model.proofs.Memories.Named.{user-place, place-name, named-place}
-use Rattle.model.specs.Told.{Told, orNumber}
-use Rattle.memory.specs.declared.find.Found.{Found}
-use Rattle.memory.specs.Found.{foundTold, foundRef}
 use Rattle.memory.specs.Put.{putAt}
-
-or-number-value : {A : Type 0} (n : ℕ) (o : Option A) → orNumber n o .value ≡ o
-unfolding orNumber
-or-number-value n none = refl
-or-number-value n (some a) = refl
-
--- the system that an answer tells of
-pub found-ref : (l : List System) (f : Found) (o : Option Ref) → foundTold l f ≡ orNumber 7 o → foundRef l f ≡ o
-found-ref l f o e = ap (λ (t : Told Ref). t .value) e ∙ or-number-value 7 o
 
 -- a system is put at the place that its name has
 pub put-by-place : (m : Memory) (s : System) → put m s ≡ putAt m (placeNamed (m .systems) (s .name)) s

@@ -7,6 +7,7 @@ use native.Mathlib.Omega.{arith}
 use borrow.Author.Tests.{le-leb, lt-leb}
 use lib.Dec.{leb, eqb}
 use lib.ListN.{length, take, length-map, length-take}
+use Rattle.model.specs.Limits.{maxSystems}
 use Rattle.model.specs.declared.Memory.{Memory as StoredMemory}
 use Rattle.model.specs.declared.State.{State as StoredState}
 use Rattle.model.specs.Lists.{all}
@@ -42,16 +43,16 @@ module _ (m : StoredMemory) where
   unfolding storedAllFine storedFine
   stored-all = all-both nameShaped (systemFine (systemsOf m)) systemOf (take (m .count) (m .systems))
 
-  pub judged-long : 16 < m .count → memoryShaped m && memoryFine (memoryOf m) ≡ false
+  pub judged-long : maxSystems < m .count → memoryShaped m && memoryFine (memoryOf m) ≡ false
   unfolding memoryShaped
-  judged-long h = rw (lt-leb (m .count) 16 h)
+  judged-long h = rw (lt-leb (m .count) maxSystems h)
 
-  pub judged : m .count ≤ 16 → memoryShaped m && memoryFine (memoryOf m)
+  pub judged : m .count ≤ maxSystems → memoryShaped m && memoryFine (memoryOf m)
       ≡ (storedAllFine m && enabledFine (systemsOf m) (m .enabled)) && (namesDiffer (systemsOf m) && noRing (systemsOf m))
   unfolding memoryShaped memoryFine
   judged h =
-      let few : length (systemsOf m) ≤ 16 = simp (length-map, length-take) (omega arith) in
-      rw (le-leb (m .count) 16 h, le-leb (length (systemsOf m)) 16 few, ← stored-all)
+      let few : length (systemsOf m) ≤ maxSystems = simp (length-map, length-take) (omega arith) in
+      rw (le-leb (m .count) maxSystems h, le-leb (length (systemsOf m)) maxSystems few, ← stored-all)
       (regroup (all nameShaped (take (m .count) (m .systems))) (all (systemFine (systemsOf m)) (systemsOf m)) _ _ _)
 
 rotate : (s f v : Bool) → s && (f && v) ≡ v && (s && f)

@@ -21,7 +21,8 @@ use Rattle.model.specs.WellFormed.{offsetsFine, turnsFine, memoryFine}
 use Rattle.model.specs.Request.{Query, enabledOnes, systemsAll, links, resultants, resultantOf}
 use Rattle.model.specs.Reply.{sixValues, listing, everySystem, enabledLine, linkLine, systemLine, resultantLine, listed}
 use Rattle.model.proofs.Basics.{and-split}
-use Rattle.model.proofs.Memories.Fine.{Systems, ownFine, fine-of, blank-beyond}
+use Rattle.model.proofs.Memories.Fine.{Systems, fine-of, blank-beyond}
+use Rattle.model.specs.WellFormed.{ownFine}
 use Rattle.print.proofs.Laws.{value-short, decimal-short}
 use Rattle.reply.specs.Types.{Vec3, Turns, Kind, Ksd, Kst, Ksw, Ksb, Kld, Group, Operating, Orientational, Levelling, Enabled, OperatingPart, Single, Pair}
 use Rattle.reply.specs.Lines.{furtherLines}

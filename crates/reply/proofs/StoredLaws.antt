@@ -14,7 +14,8 @@ use Rattle.model.specs.Stored.{systemOf, systemsOf, memoryOf, nameShaped, memor
 use Rattle.model.specs.Words.{legalName, reserved}
 use Rattle.model.specs.WellFormed.{offsetsFine, turnsFine, memoryFine}
 use Rattle.model.proofs.Basics.{and-split, all-at}
-use Rattle.model.proofs.Memories.Fine.{ownFine, fine-of, preds-within}
+use Rattle.model.proofs.Memories.Fine.{fine-of, preds-within}
+use Rattle.model.specs.WellFormed.{ownFine}
 use Rattle.pose.specs.Poses.{Quarters, reach}
 use Rattle.pose.proofs.Bounds.{within-more}
 use Rattle.chains.proofs.Copies.{unset}

@@ -9,7 +9,7 @@ use chains::frames::reach;
 use chains::frames::reach_from;
 use chains::frames::unmoved;
 use chains::links::links_of;
-use memory::kinds::group_of;
+use facts::kinds::group_of;
 use model::Group;
 use model::Memory;
 use model::Name;

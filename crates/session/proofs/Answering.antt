@@ -17,11 +17,11 @@ use Rattle.model.specs.Limits.{bufferLimit}
 use Rattle.model.specs.Memory.{State}
 use Rattle.model.specs.Machine.{Outcome, stepped, written}
 use Rattle.model.specs.Trace.{printed}
-use Rattle.model.specs.Stored.{holds, shapeless, Answered, ofOutcome, shaped, stateOf, viewOf}
+use Rattle.model.specs.Stored.{FineState, holds, shapeless, Answered, ofOutcome, shaped, stateOf, viewOf}
 use Rattle.model.proofs.Basics.{either}
 use Rattle.model.proofs.Histories.Kept.{well-formed-kept}
 use Rattle.engine.specs.declared.answer.Stepped.{Stepped}
-use Rattle.engine.specs.Fine.{Fine, answeredOf}
+use Rattle.engine.specs.Answers.{answeredOf}
 use Rattle.engine.proofs.Views.{view-holds, view-shapeless}
 use Rattle.reply.specs.Lines.{Replied}
 use Rattle.session.specs.Feed.{lent, said, outcome}
@@ -60,7 +60,7 @@ refusal-written k b d n h w =
 
 -- ---- one line
 
-module _ (s : StoredState) (fine : Fine s) (line b : List ℕ) (long : bufferLimit ≤ length b) (o : Outcome) (e : o ≡ stepped (stateOf s) line b) where
+module _ (s : StoredState) (fine : FineState s) (line b : List ℕ) (long : bufferLimit ≤ length b) (o : Outcome) (e : o ≡ stepped (stateOf s) line b) where
   like-lent : seen o ≡ seen (outcome (stateOf s) line)
   like-lent = ap seen e ∙ any-buffer (stateOf s) line b lent long lent-long
 
@@ -108,7 +108,7 @@ module _ (s : StoredState) (fine : Fine s) (line b : List ℕ) (long : bufferLim
       }
 
 -- the same where the state came back by value
-pub answers-obeyed : (s : StoredState) → Fine s → (line b : List ℕ) → bufferLimit ≤ length b → (r : Stepped) (c : List ℕ) →
+pub answers-obeyed : (s : StoredState) → FineState s → (line b : List ℕ) → bufferLimit ≤ length b → (r : Stepped) (c : List ℕ) →
     answeredOf r c ≡ ofOutcome (stepped (stateOf s) line b) → (d : List ℕ) (n : ℕ) → Says (r .number) (r .length) c d n → length d ≡ length b →
     Answers s line b d (r .state) n
 answers-obeyed s fine line b long r c e d n says kept =

@@ -2,7 +2,7 @@
 use Prim.Native.Nat.{ℕ, zero, suc, _+_, _≤_}
 use mathlib.Core.Path.{_≡_, refl, sym, ap, _∙_}
 use mathlib.Core.List.{List, [], _∷_, _++_, map, append-assoc, append-nil}
-use mathlib.Core.Bool.{true, cond, _&&_}
+use mathlib.Core.Bool.{true, _&&_}
 use mathlib.Core.Option.{Option, none, some}
 use native.Mathlib.Omega.{arith}
 use lib.Dec.{eqb, leb}
@@ -13,7 +13,7 @@ use Rattle.model.specs.Lists.{all, joined, table, none?}
 use Rattle.model.specs.Limits.{maxSystems}
 use Rattle.model.specs.Memory.{System, Memory}
 use Rattle.model.specs.WellFormed.{isKind, systemFine, operatingFine, enabledFine, memoryFine}
-use Rattle.model.specs.Image.{edition, whole, numbers, systemBytes, enabledBytes, image, give, fail, repeated, upTo, several, mostByte, readSystem, readSystems, enabledFrom, readEnabled, readMemory, whollyRead, accepted}
+use Rattle.model.specs.Image.{edition, whole, numbers, systemBytes, enabledBytes, image, give, upTo, several, mostByte, readSystem, readSystems, enabledFrom, readEnabled, readContents, readMemory, whollyRead, accepted}
 use Rattle.model.specs.ImageClaims.{ReadsBack, AcceptedExactly, OneMemory}
 use Rattle.model.proofs.Basics.{true-false, and-split}
 use Rattle.model.proofs.Image.Readers.{then, gave, one-read, nothing, passed, chosen}
@@ -78,12 +78,12 @@ enabled-told bs e rest r =
 -- ---- a memory
 
 memory-read : (m : Memory) → memoryFine m ≡ true → readMemory (image m) ≡ some (m, [])
-unfolding readMemory image joined give
+unfolding readMemory readContents image joined give
 memory-read m h =
     let p = parts m h in
     let e = enabledBytes (m .enabled) ++ [] in
     then (several 2 mostByte) _ _ (read-two mostByte (joined (map systemBytes (m .systems)) ++ e) (omega arith) (omega (arith, p .few)))
-    ∙ rw (le-leb (length (m .systems)) 16 (p .few))
+    ∙ rw (le-leb (length (m .systems)) maxSystems (p .few))
     (then (readSystems (length (m .systems))) _ _ (systems-read (m .systems) (m .systems) e (p .few) (p .fine))
     ∙ then readEnabled _ _ (enabled-read (m .systems) (p .few) (m .enabled) [] (p .enabled)))
 
@@ -94,17 +94,17 @@ head-told m bs h after-h mid rest t e l s n =
     numbers-taken t ∙ rw (eh, s, n) (simp (append-assoc, append-nil))
 
 memory-told : (bs : List ℕ) (m : Memory) (rest : List ℕ) → readMemory bs ≡ some (m, rest) → bs ≡ image m ++ rest
-unfolding readMemory give
+unfolding readMemory readContents give
 memory-told bs m rest e =
     let h = gave (several 2 mostByte) _ bs e in
     let t = eqb (getD (h .0) 0 0) edition && leb (getD (h .0) 1 0) maxSystems in
-    let l = gave (cond t (readSystems (getD (h .0) 1 0)) fail) _ (h .1) (h .3) in
+    let c = chosen t (readContents (getD (h .0) 1 0)) (h .1) (h .3) in
+    let l = gave (readSystems (getD (h .0) 1 0)) _ (h .1) (c .1) in
     let n = gave readEnabled _ (l .1) (l .3) in
     let q = one-read (n .3) in
-    let c = chosen t (readSystems (getD (h .0) 1 0)) (h .1) (l .2) in
     let f = and-split (eqb (getD (h .0) 0 0) edition) (leb (getD (h .0) 1 0) maxSystems) (c .0) in
-    let s = systems-told (getD (h .0) 1 0) (h .1) (l .0) (l .1) (c .1) in
-    rw (q .0, q .1) at (head-told (record { systems = l .0; enabled = n .0 }) bs (h .0) (h .1) (l .1) (n .1) (several-told mostByte 2 bs (h .0) (h .1) (h .2)) (eqb-true (getD (h .0) 0 0) 1 (f .0)) (s .long) (s .bytes) (enabled-told (l .1) (n .0) (n .1) (n .2)))
+    let s = systems-told (getD (h .0) 1 0) (h .1) (l .0) (l .1) (l .2) in
+    rw (q .0, q .1) at (head-told (record { systems = l .0; enabled = n .0 }) bs (h .0) (h .1) (l .1) (n .1) (several-told mostByte 2 bs (h .0) (h .1) (h .2)) (eqb-true (getD (h .0) 0 0) edition (f .0)) (s .long) (s .bytes) (enabled-told (l .1) (n .0) (n .1) (n .2)))
 
 -- ---- accepted
 

@@ -29,7 +29,7 @@ use Rattle.model.proofs.Image.Several.{TakenNumbers, several-told, numb
 name-told : (n : ℕ) (bs name rest : List ℕ) → readName n bs ≡ some (name, rest) → (bs ≡ name ++ rest) × (length name ≡ n)
 unfolding readName readBytes fail
 name-told n bs name rest e =
-    ⊎-elim (λ t. taken (rw t at e)) (λ t. nothing (rw t at e)) (either (leb n 16))
+    ⊎-elim (λ t. taken (rw t at e)) (λ t. nothing (rw t at e)) (either (leb n nameLimit))
   where
     taken : readBytes n bs ≡ some (name, rest) → (bs ≡ name ++ rest) × (length name ≡ n)
     taken r =
@@ -42,7 +42,7 @@ name-read : (l rest : List ℕ) → length l ≤ nameLimit → readName (length 
 unfolding readName readBytes
 name-read l rest h =
     let g : length l ≤ length (l ++ rest) = omega (arith, length-append l rest) in
-    rw (le-leb (length l) 16 h, le-leb (length l) (length (l ++ rest)) g, take-append-seam l rest, drop-append-seam l rest)
+    rw (le-leb (length l) nameLimit h, le-leb (length l) (length (l ++ rest)) g, take-append-seam l rest, drop-append-seam l rest)
 
 -- ---- a type code
 
@@ -125,7 +125,7 @@ system-told bs s rest e =
     let n = gave (readName (getD (h .0) 1 0)) _ (k .1) (k .3) in
     let o = gave (several 3 mostOffset) _ (n .1) (n .3) in
     let t = gave (several 4 mostByte) _ (o .1) (o .3) in
-    let q = one-read (t .3) in
+    let q = one-read {a = systemFrom (k .0) (n .0) (o .0) (t .0)} (t .3) in
     let kt = given (h .1) (kindOf kinds (getD (h .0) 0 0)) (k .2) in
     let nt = name-told (getD (h .0) 1 0) (k .1) (n .0) (n .1) (n .2) in
     let to = several-told mostOffset 3 (n .1) (o .0) (o .1) (o .2) in

@@ -5,7 +5,7 @@ use mathlib.Core.Option.{Option}
 use borrow.Author.Needs.{needs}
 use Rattle.model.specs.Lists.{there?}
 use Rattle.model.specs.Memory.{Ref, refOr, systemAt}
-use Rattle.memory.proofs.ByName.{found-ref}
+use Rattle.model.proofs.Told.{told-value}
 use Rattle.commands.proofs.subject.about.Statement.{statement}
 use Rattle.commands.proofs.subject.about.Tie as tie
 
@@ -27,7 +27,7 @@ returns c =
     let l = m .systems in
     let at = c .before .before .before .found-at .ensures in
     let told = at .0 l (m .enabled) place in
-    let found = found-ref l _ _ told in
+    let found = sym (told-value 7 _ _ told) in
     let there = kind ∙ ap (λ (q : ℕ). systemAt l q .kind) (sym (at .1)) in
     let group = c .before .before .group-found .ensures l there ∙ ap (λ (o : Option Ref). refOr o .group) found in
     record {

@@ -2,6 +2,7 @@ use mathlib.Core.Path.{_≡_, refl, sym, ap, _∙_}
 use native.Mathlib.Omega.{arith}
 use borrow.Author.Needs.{needs}
 use lib.ListN.{length}
+use Rattle.model.specs.Limits.{maxSystems}
 use Rattle.model.specs.Memory.{System, systemAt}
 use Rattle.model.specs.Stored.{systemsOf, memoryOf}
 use Rattle.chains.proofs.Copies.{length-mapped}
@@ -11,7 +12,7 @@ use Rattle.commands.proofs.Asked.{place-is}
 use Rattle.commands.proofs.subject.look.Statement.{statement}
 use Rattle.commands.proofs.subject.look.Tie as tie
 
-long : (c : tie.Start) → length (c .args .m .systems) ≡ 16
+long : (c : tie.Start) → length (c .args .m .systems) ≡ maxSystems
 long c = search (length-mapped, needs)
 
 places-named-requires : tie.Need-places-named-requires

@@ -1,6 +1,7 @@
 use mathlib.Core.Path.{sym, ap, _∙_}
 use borrow.Author.Needs.{needs}
 use borrow.Author.Tests.{le-leb}
+use Rattle.model.specs.Limits.{nameLimit}
 use Rattle.model.specs.Memory.{System, systemAt}
 use Rattle.model.specs.Request.{copy}
 use Rattle.model.specs.Effects.{withVolatile, withName, changed}
@@ -50,7 +51,7 @@ returns-2 c =
     let copied = made .0 ∙ ap (λ (z : System). withName z to) source in
     let next = (λ i. putAt m (y i) (copied i)) ∙ sym (copied-by-place m x to) in
     decides-put s (copy x to) (j .judge-copy .result) number (c .putting .result) (a .k .second .place) (c .before .renamed .result) (t .if1 .left) (c .putting .ensures)
-    (rw (made .1) (le-leb (a .to .len) 16 (start .pre .1)))
+    (rw (made .1) (le-leb (a .to .len) nameLimit (start .pre .1)))
     (rw y (place-few (s .volatile) x to _ seen to, room (s .volatile) x to _ seen to passed))
     (ap (withVolatile (stateOf s)) next)
 

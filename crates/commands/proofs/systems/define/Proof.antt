@@ -1,6 +1,7 @@
 use mathlib.Core.Path.{sym, ap, _∙_}
 use borrow.Author.Needs.{needs}
 use borrow.Author.Tests.{le-leb}
+use Rattle.model.specs.Limits.{nameLimit}
 use Rattle.model.specs.declared.Enabled.{Enabled}
 use Rattle.model.specs.Request.{Change, define}
 use Rattle.model.specs.Effects.{withVolatile, fresh, changed}
@@ -48,7 +49,7 @@ returns-2 c =
     let new = made .0 (m .systems) ∙ ap (λ (e : Enabled). fresh (holding (m .systems) e) (a .kind) (bytesOf (a .n)) (a .offset) (a .turns)) (seen .enabled) in
     let next = (λ i. putAt m (x i) (new i)) ∙ sym (defined-by-place m (a .kind) (bytesOf (a .n)) (a .offset) (a .turns)) in
     decides-put s (asked (j .before)) (j .judge-define .result) number (c .putting .result) (a .k .first .place) (c .before .fresh-system .result) (t .if1 .left) (c .putting .ensures)
-    (rw (made .1) (le-leb (a .n .len) 16 (j .before .pre .1)))
+    (rw (made .1) (le-leb (a .n .len) nameLimit (j .before .pre .1)))
     (rw x (place-few (s .volatile) _ _ _ seen (bytesOf (a .n)), room (s .volatile) _ _ _ seen (bytesOf (a .n)) passed))
     (ap (withVolatile (stateOf s)) next)
 

@@ -4,6 +4,7 @@ use mathlib.Core.List.{List, [], _++_}
 use native.Mathlib.Omega.{arith}
 use lib.ListN.{length, take}
 use borrow.Author.Tests.{leb-true}
+use Rattle.model.specs.Limits.{nameLimit}
 use Rattle.model.specs.Image.{numbers, systemBytes}
 use Rattle.model.specs.Stored.{bytesOf, systemOf}
 use Rattle.image.proofs.Left.{Left, left-all, left-wrote, left-fits, left-done}
@@ -43,15 +44,18 @@ module _ (c : tie.After-turned-of) where
   abbrev LeftOf : List ℕ → ℕ → List ℕ → Type 0
   LeftOf rest i a = Left (systemBytes (systemOf (start .args .s))) (start .args .at) (start .args .out .now) rest i a
 
-  long : length (start .args .s .name .bytes) ≡ 16
+  long : length (start .args .s .name .bytes) ≡ nameLimit
   long = search needs
 
-  short : start .args .s .name .len ≤ 16
-  short = leb-true (start .args .s .name .len) 16 (start .pre .0 .0)
+  short : start .args .s .name .len ≤ nameLimit
+  short = leb-true (start .args .s .name .len) nameLimit (start .pre .0 .0)
 
   all-left : LeftOf (head ++ (name ++ (offsets ++ (turned ++ [])))) (start .args .at) (start .args .out .now)
   all-left =
-      rw (system-parts (start .args .s) _ _ _ long short (c .before .before .head-of .ensures) (c .before .offsets-of .ensures) (c .turned-of .ensures)) (left-all _ (start .args .at) (start .args .out .now))
+      let h = c .before .before .head-of in
+      let o = c .before .offsets-of in
+      let t = c .turned-of in
+      rw (system-parts (start .args .s) (h .result) (o .result) (t .result) long short (h .ensures) (o .ensures) (t .ensures)) (left-all _ (start .args .at) (start .args .out .now))
 
   room : (x rest : List ℕ) (i : ℕ) (a : List ℕ) → LeftOf (x ++ rest) i a → i + length x ≤ length a
   room x rest i a l = left-fits x rest l (start .pre .0 .1)

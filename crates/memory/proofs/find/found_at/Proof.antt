@@ -3,6 +3,7 @@ use native.Mathlib.Omega.{arith}
 use borrow.Author.Needs.{needs}
 use borrow.Author.Tests.{lt-ltb, le-ltb}
 use lib.ListN.{length}
+use Rattle.model.specs.Limits.{nameLimit}
 use Rattle.model.specs.Memory.{isUser, find}
 use Rattle.model.specs.Told.{orNumber}
 use Rattle.memory.specs.Found.{foundTold, foundPlace}
@@ -10,7 +11,7 @@ use Rattle.memory.proofs.Laws.{name-fits, name-count, name-bytes}
 use Rattle.memory.proofs.find.found_at.Statement.{statement}
 use Rattle.memory.proofs.find.found_at.Tie as tie
 
-long : (c : tie.Start) → length (c .args .n .bytes) ≡ 16
+long : (c : tie.Start) → length (c .args .n .bytes) ≡ nameLimit
 long c = search needs
 
 returns : tie.Need-returns

@@ -5,9 +5,10 @@ use mathlib.Core.Logic.{⊎-elim}
 use native.Mathlib.Omega.{arith}
 use borrow.Author.Needs.{needs}
 use lib.ListN.{length, take, drop}
+use Rattle.model.specs.declared.Memory.{Memory as StoredMemory}
+use Rattle.model.specs.declared.State.{State as StoredState}
 use Rattle.model.specs.Stored.{stateOf, memoryShaped}
 use Rattle.commands.specs.Done.{done, Fits}
-use Rattle.engine.specs.Fine.{stateWith}
 use Rattle.lines.specs.Before.{before}
 use Rattle.lines.proofs.Laws.{end-inside}
 use Rattle.session.specs.Blocks.{Run}
@@ -26,6 +27,10 @@ use Rattle.memory.proofs.edit.removed_at.Reads as removed-at-reads
 use Rattle.memory.proofs.factory.factory_memory.Reads as factory-memory-reads
 use Rattle.session.proofs.run.joined.Reads as joined-reads
 use Rattle.session.proofs.run.say.Reads as say-reads
+
+-- the stored state of these parts
+abbrev stateWith : StoredMemory → StoredMemory → ℕ → ℕ → StoredState
+stateWith v p level error = record { volatile = v; permanent = p; level = level; error = error }
 
 abbrev Inv-loop : tie.InvT-loop
 Inv-loop block out₀ volatile₀ permanent₀ level₀ error₀ used₀ written₀ out volatile permanent level error used written =
@@ -112,7 +117,7 @@ said c =
     turned (stateOf (start .args .s)) block (start .args .out .now) (l .out) (stateWith (l .volatile) (l .permanent) (l .level) (l .error)) (l .used) (l .written) (l .inv)
     (end .result) (end .ensures) (inside p) _ (ap (λ (k : ℕ). take k (drop (l .used) block)) size)
     (rw (rest-long (l .out) (l .written)) (omega (arith, p .before .before .loop-test .taken)))
-    (step .result) _ (step .ensures (l .permanent) (l .inv .fine)) (c .before .before .before .before .before .before .out .given .0) _ _ (c .before .before .say .ensures) (c .before .out2 .given .0)
+    (step .result) _ (step .ensures (stateWith (l .volatile) (l .permanent) (l .level) (l .error)) refl refl refl (l .inv .fine)) (c .before .before .before .before .before .before .out .given .0) _ _ (c .before .before .say .ensures) (c .before .out2 .given .0)
 
 add-written : tie.Need-add-written Inv-loop μ-loop
 add-written c =
