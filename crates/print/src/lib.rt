@@ -49,7 +49,7 @@ fn put_one(out: &mut [u8], at: usize, n: u64) -> usize
     requires { ⌜ at + 1 ≤ length (now out) ⌝ }
     ensures { λ r. ⌜ Wrote (lastDigits 1 n) (now (out .entry)) at (now (out .exit)) r ⌝ }
 {
-    put_byte(out, at, 48 + (n % 10) as u8)
+    put_byte(out, at, b'0' + (n % 10) as u8)
 }
 
 fn put_two(out: &mut [u8], at: usize, n: u64) -> usize

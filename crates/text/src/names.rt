@@ -28,7 +28,7 @@ fn illegal() -> NameRead
 pub fn name_byte(b: u8) -> bool
     ensures { λ r. ⌜ r ≡ model.nameByte b ⌝ }
 {
-    between(65, 90, b) | between(48, 57, b) | (b == 95)
+    between(b'A', b'Z', b) | between(b'0', b'9', b) | (b == b'_')
 }
 
 pub fn read_name(line: &[u8], w: Word) -> NameRead
@@ -43,7 +43,7 @@ pub fn read_name(line: &[u8], w: Word) -> NameRead
     if NAME_LIMIT < n {
         return illegal();
     }
-    if !between(65, 90, upper(line[start])) {
+    if !between(b'A', b'Z', upper(line[start])) {
         return illegal();
     }
     let mut bytes = [0u8; NAME_LIMIT];

@@ -33,7 +33,7 @@ pub enum Pairs {
     Kept(Vec3, Turns),
 }
 
-// The place of an axis word; 6 for any other.
+// The place of an axis word; for any other the place behind them.
 fn axis_of(line: &[u8], w: Word) -> usize
     requires { ⌜ Within (now line) w ⌝ }
     ensures { λ r. ⌜ r ≡ axis (wordOf (now (line .entry)) w) ⌝ }
@@ -56,7 +56,7 @@ fn axis_of(line: &[u8], w: Word) -> usize
     if is_word(line, w, b"W") {
         return 5;
     }
-    6
+    AXES
 }
 
 // Whether the command has the axis and it has not come yet.
@@ -142,7 +142,7 @@ pub fn read_pairs(line: &[u8], from: usize, kind: Kind) -> Pairs
         let mut n = Num::Start;
         while at < line.len() {
             let b = line[at];
-            if b == 32 {
+            if b == b' ' {
                 break;
             }
             n = step(n, b);

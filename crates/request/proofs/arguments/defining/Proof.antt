@@ -13,7 +13,7 @@ use Rattle.text.specs.Readings.{readingTold}
 use Rattle.text.proofs.NameLaws.{name-ok, name-bytes, name-short}
 use Rattle.text.proofs.PairLaws.{defining, definition-read, definition-unnamed}
 use Rattle.text.proofs.WordLaws.{word-within}
-use Rattle.request.specs.declared.Asked.the-variants.{Malformed, Beyond}
+use Rattle.request.specs.declared.Asked.the-variants.{Malformed}
 use Rattle.request.proofs.Laws.{define-none}
 use Rattle.request.proofs.Says.{says-plain}
 use Rattle.request.proofs.Words.{at-word, either-way, legal-some}
@@ -88,13 +88,13 @@ returns-2 : tie.Need-returns-2
 returns-2 c =
     let told = c .before in
     let d = told .before .before .before in
-    says-plain Malformed (c .plain2 .ensures) (sym (by-pairs d ∙ rw (told .enum-told .given .1)))
+    says-plain _ (c .plain2 .ensures) (sym (by-pairs d ∙ rw (told .enum-told .given .1)))
 
 returns-3 : tie.Need-returns-3
 returns-3 c =
     let told = c .before in
     let d = told .before .before .before in
-    says-plain Beyond (c .plain3 .ensures) (sym (by-pairs d ∙ rw (told .enum-told2 .given .1)))
+    says-plain _ (c .plain3 .ensures) (sym (by-pairs d ∙ rw (told .enum-told2 .given .1)))
 
 returns-4 : tie.Need-returns-4
 returns-4 c =
