@@ -1,13 +1,14 @@
 -- The systems of a stored memory, one after the other.
 use Prim.Native.Nat.{ℕ, _+_, min, _<_, _≤_, _^_}
-use mathlib.Core.Path.{_≡_, sym, ap, _∙_}
-use mathlib.Core.List.{List, [], _∷_, _++_, map}
+use mathlib.Core.Path.{_≡_, ap, _∙_}
+use mathlib.Core.List.{[], _∷_, _++_, map}
 use mathlib.Core.Bool.{true}
 use native.Mathlib.Omega.{arith}
 use native.Mathlib.Numerals.{add-one}
 use lib.IntN.{ℤ, pos, negsuc, natAbs}
 use lib.ListN.{length, drop, getD, drop-of-length-le}
 use lib.Seq.{drop-cons}
+use Rattle.model.specs.Limits.{maxSystems}
 use Rattle.model.specs.declared.System.{System as StoredSystem}
 use Rattle.model.specs.declared.Memory.{Memory as StoredMemory}
 use Rattle.model.specs.Lists.{joined}
@@ -24,8 +25,8 @@ code-large : (z : ℤ) → natAbs z ≤ signedCode z + 1
 code-large (pos n) = omega arith
 code-large (negsuc n) = omega arith
 
-module _ (m : StoredMemory) (long : length (m .systems) ≡ 16) (shaped : memoryShaped m ≡ true) where
-  counted : m .count ≡ min (m .count) 16
+module _ (m : StoredMemory) (long : length (m .systems) ≡ maxSystems) (shaped : memoryShaped m ≡ true) where
+  counted : m .count ≡ min (m .count) maxSystems
   counted = omega (arith, shaped-count m shaped)
 
   pub stored-count : length (systemsOf m) ≡ m .count

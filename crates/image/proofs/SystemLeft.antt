@@ -5,6 +5,7 @@ use mathlib.Core.List.{List, [], _∷_, _++_}
 use native.Mathlib.Omega.{arith}
 use lib.ListN.{length, take}
 use lib.Seq.{length-take-le}
+use Rattle.model.specs.Limits.{nameLimit}
 use Rattle.model.specs.declared.System.{System as StoredSystem}
 use Rattle.model.specs.Lists.{joined}
 use Rattle.model.specs.Kinds.{ofKind}
@@ -12,7 +13,7 @@ use Rattle.model.specs.Image.{signedCode, numbers, systemBytes}
 use Rattle.model.specs.Stored.{bytesOf, systemOf}
 
 -- h, o and t hold the numbers before the name, the offsets as written, and the turns with the predecessor's place
-pub system-parts : (s : StoredSystem) (h o t : List ℕ) → length (s .name .bytes) ≡ 16 → s .name .len ≤ 16
+pub system-parts : (s : StoredSystem) (h o t : List ℕ) → length (s .name .bytes) ≡ nameLimit → s .name .len ≤ nameLimit
     → take 2 h ≡ ofKind (s .kind) .code ∷ s .name .len ∷ []
     → take 3 o ≡ signedCode (s .offset .x) ∷ signedCode (s .offset .y) ∷ signedCode (s .offset .z) ∷ []
     → take 4 t ≡ s .turns .u ∷ s .turns .v ∷ s .turns .w ∷ s .pred ∷ []

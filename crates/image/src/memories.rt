@@ -21,7 +21,7 @@ ghost use Rattle.model.specs.Limits.{maxSystems, bufferLimit};
 ghost use Rattle.model.specs.Lists.{all, joined};
 ghost use Rattle.model.specs.WellFormed.{memoryFine};
 ghost use Rattle.model.specs.Told.{orNumber};
-ghost use Rattle.model.specs.Image.{systemBytes, image, readSystems, readMemory};
+ghost use Rattle.model.specs.Image.{systemBytes, image, readSystems, readContents, readMemory};
 ghost use Rattle.model.specs.Stored.{systemsOf, memoryOf, nameShaped, memoryShaped};
 ghost use Rattle.print.specs.Over.{Wrote};
 ghost use Rattle.image.specs.Views.{systemsTold, memoryTold};
@@ -84,22 +84,12 @@ fn no_memory() -> MemoryRead
     }
 }
 
-pub fn read_memory(bytes: &[u8]) -> MemoryRead
-    ensures { λ r. ⌜ (memoryTold (now (bytes .entry)) r ≡ orNumber 14 (readMemory (now (bytes .entry)))) × (memoryShaped (r .memory) ≡ true) ⌝ }
+// What comes after the edition and the number of systems.
+fn read_contents(bytes: &[u8], at: usize, count: usize) -> MemoryRead
+    requires { ⌜ count ≤ maxSystems ⌝ }
+    ensures { λ r. ⌜ (memoryTold (now (bytes .entry)) r ≡ orNumber 14 (readContents count (drop at (now (bytes .entry))))) × (memoryShaped (r .memory) ≡ true) ⌝ }
 {
-    let head = read_numbers(bytes, 0, 2, MOST_BYTE);
-    if !head.ok {
-        return no_memory();
-    }
-    let h = head.values;
-    if h[0] != EDITION {
-        return no_memory();
-    }
-    let count = h[1] as usize;
-    if MAX_SYSTEMS < count {
-        return no_memory();
-    }
-    let listed = read_systems(bytes, head.next, count);
+    let listed = read_systems(bytes, at, count);
     if !listed.ok {
         return no_memory();
     }
@@ -118,6 +108,24 @@ pub fn read_memory(bytes: &[u8]) -> MemoryRead
         next,
         memory,
     }
+}
+
+pub fn read_memory(bytes: &[u8]) -> MemoryRead
+    ensures { λ r. ⌜ (memoryTold (now (bytes .entry)) r ≡ orNumber 14 (readMemory (now (bytes .entry)))) × (memoryShaped (r .memory) ≡ true) ⌝ }
+{
+    let head = read_numbers(bytes, 0, 2, MOST_BYTE);
+    if !head.ok {
+        return no_memory();
+    }
+    let h = head.values;
+    if h[0] != EDITION {
+        return no_memory();
+    }
+    let count = h[1] as usize;
+    if MAX_SYSTEMS < count {
+        return no_memory();
+    }
+    read_contents(bytes, head.next, count)
 }
 
 fn write_systems(out: &mut [u8], at: usize, m: Memory) -> usize

@@ -13,7 +13,7 @@ use Rattle.model.specs.Lists.{all, joined, table, none?}
 use Rattle.model.specs.Limits.{maxSystems}
 use Rattle.model.specs.Memory.{System, Memory}
 use Rattle.model.specs.WellFormed.{isKind, systemFine, operatingFine, enabledFine, memoryFine}
-use Rattle.model.specs.Image.{edition, whole, numbers, systemBytes, enabledBytes, image, give, repeated, upTo, several, mostByte, readSystem, readSystems, enabledFrom, readEnabled, readContents, readMemory, whollyRead, accepted}
+use Rattle.model.specs.Image.{edition, whole, numbers, systemBytes, enabledBytes, image, give, upTo, several, mostByte, readSystem, readSystems, enabledFrom, readEnabled, readContents, readMemory, whollyRead, accepted}
 use Rattle.model.specs.ImageClaims.{ReadsBack, AcceptedExactly, OneMemory}
 use Rattle.model.proofs.Basics.{true-false, and-split}
 use Rattle.model.proofs.Image.Readers.{then, gave, one-read, nothing, passed, chosen}

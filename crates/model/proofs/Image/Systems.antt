@@ -125,7 +125,7 @@ system-told bs s rest e =
     let n = gave (readName (getD (h .0) 1 0)) _ (k .1) (k .3) in
     let o = gave (several 3 mostOffset) _ (n .1) (n .3) in
     let t = gave (several 4 mostByte) _ (o .1) (o .3) in
-    let q = one-read (t .3) in
+    let q = one-read {a = systemFrom (k .0) (n .0) (o .0) (t .0)} (t .3) in
     let kt = given (h .1) (kindOf kinds (getD (h .0) 0 0)) (k .2) in
     let nt = name-told (getD (h .0) 1 0) (k .1) (n .0) (n .1) (n .2) in
     let to = several-told mostOffset 3 (n .1) (o .0) (o .1) (o .2) in

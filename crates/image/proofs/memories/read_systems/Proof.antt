@@ -8,6 +8,7 @@ use borrow.Author.Needs.{needs}
 use borrow.Author.Tests.{not-true, not-false}
 use lib.ListN.{length, take, drop, set, length-set}
 use lib.Seq.{take-suc-set}
+use Rattle.model.specs.Limits.{maxSystems}
 use Rattle.model.specs.declared.System.{System as StoredSystem}
 use Rattle.model.specs.Lists.{all}
 use Rattle.memory.proofs.Shape.{all-more}
@@ -21,7 +22,7 @@ use Rattle.image.proofs.memories.read_systems.Tie as tie
 
 abbrev Inv-loop : tie.InvT-loop
 Inv-loop bytes at count systems₀ next₀ i₀ systems next i =
-    (i ≤ count) × (length systems ≡ 16) × (readSystems count (drop at bytes) ≡ prefixed (map systemOf (take i systems)) (readSystems (count - i) (drop next bytes))) × (all nameShaped (take i systems) ≡ true)
+    (i ≤ count) × (length systems ≡ maxSystems) × (readSystems count (drop at bytes) ≡ prefixed (map systemOf (take i systems)) (readSystems (count - i) (drop next bytes))) × (all nameShaped (take i systems) ≡ true)
 
 abbrev μ-loop : tie.MeasureT-loop
 μ-loop bytes at count systems₀ next₀ i₀ systems next i = count - i

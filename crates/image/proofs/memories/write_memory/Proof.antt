@@ -3,6 +3,7 @@ use mathlib.Core.Path.{_≡_}
 use mathlib.Core.List.{List, [], _∷_, _++_, map}
 use native.Mathlib.Omega.{arith}
 use lib.ListN.{length}
+use Rattle.model.specs.Limits.{maxSystems}
 use Rattle.model.specs.Lists.{joined}
 use Rattle.model.specs.Image.{edition, numbers, systemBytes, enabledBytes, image}
 use Rattle.model.specs.Stored.{systemsOf, memoryOf}
@@ -36,7 +37,7 @@ module _ (c : tie.Start) where
   abbrev LeftOf : List ℕ → ℕ → List ℕ → Type 0
   LeftOf rest i a = Left (image (memoryOf (c .args .m))) 0 (c .args .out .now) rest i a
 
-  long : length (c .args .m .systems) ≡ 16
+  long : length (c .args .m .systems) ≡ maxSystems
   long = search (length-mapped, needs)
 
   all-left : LeftOf (head ++ (systems ++ (enabled ++ []))) 0 (c .args .out .now)

@@ -4,6 +4,7 @@ use mathlib.Core.List.{_++_, map}
 use native.Mathlib.Omega.{arith}
 use borrow.Author.Needs.{needs}
 use lib.ListN.{length, drop, getD}
+use Rattle.model.specs.Limits.{maxSystems}
 use Rattle.model.specs.Lists.{joined}
 use Rattle.model.specs.Image.{systemBytes}
 use Rattle.model.specs.Stored.{systemOf, systemsOf}
@@ -21,7 +22,7 @@ Inv-loop out₀ at m count next₀ i₀ out next i =
 abbrev μ-loop : tie.MeasureT-loop
 μ-loop out₀ at m count next₀ i₀ out next i = count - i
 
-long : (c : tie.Start Inv-loop μ-loop) → length (c .args .t3 .systems) ≡ 16
+long : (c : tie.Start Inv-loop μ-loop) → length (c .args .t3 .systems) ≡ maxSystems
 long c = search (length-mapped, needs)
 
 cast-count : tie.Need-cast-count Inv-loop μ-loop

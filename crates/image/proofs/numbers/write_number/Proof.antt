@@ -2,7 +2,6 @@ use Prim.Native.Nat.{_+_, _/_, _%_, _≤_}
 use mathlib.Core.List.{[], _∷_}
 use native.Mathlib.Nat.{mod-lt}
 use native.Mathlib.Omega.{arith}
-use lib.ListN.{length}
 use Rattle.model.specs.Image.{whole}
 use Rattle.model.proofs.Image.Wholes.{less, whole-last, whole-more}
 use Rattle.image.proofs.Left.{Left, left-all, left-byte, left-done}

@@ -4,6 +4,7 @@ use mathlib.Core.Option.{some}
 use native.Mathlib.Omega.{arith}
 use lib.ListN.{take, drop, getD}
 use borrow.Author.Tests.{not-true, not-false, le-leb}
+use Rattle.model.specs.Limits.{nameLimit}
 use Rattle.model.specs.Stored.{bytesOf}
 use Rattle.model.specs.Image.{several, mostByte, mostOffset}
 use Rattle.model.proofs.Image.Several.{stored-low}
@@ -86,7 +87,7 @@ returns-3 c =
     let s = r .before .before in (
       rw (c .before .offset-from .ensures, c .turns-from .ensures)
           (tells-some 14 (placed _ (s .args .kind) (bytesOf (s .args .name)) (r .read-numbers .result .values) _ (offsets-read e1) (q .read-numbers2 .result .values) _ (turns-read e2))),
-      le-leb (s .args .name .len) 16 (s .pre),
+      le-leb (s .args .name .len) nameLimit (s .pre),
     )
 
 pub read-placed-spec : {M : Type 1} → statement M

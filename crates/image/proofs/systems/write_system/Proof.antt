@@ -4,6 +4,7 @@ use mathlib.Core.List.{List, [], _++_}
 use native.Mathlib.Omega.{arith}
 use lib.ListN.{length, take}
 use borrow.Author.Tests.{leb-true}
+use Rattle.model.specs.Limits.{nameLimit}
 use Rattle.model.specs.Image.{numbers, systemBytes}
 use Rattle.model.specs.Stored.{bytesOf, systemOf}
 use Rattle.image.proofs.Left.{Left, left-all, left-wrote, left-fits, left-done}
@@ -43,11 +44,11 @@ module _ (c : tie.After-turned-of) where
   abbrev LeftOf : List ℕ → ℕ → List ℕ → Type 0
   LeftOf rest i a = Left (systemBytes (systemOf (start .args .s))) (start .args .at) (start .args .out .now) rest i a
 
-  long : length (start .args .s .name .bytes) ≡ 16
+  long : length (start .args .s .name .bytes) ≡ nameLimit
   long = search needs
 
-  short : start .args .s .name .len ≤ 16
-  short = leb-true (start .args .s .name .len) 16 (start .pre .0 .0)
+  short : start .args .s .name .len ≤ nameLimit
+  short = leb-true (start .args .s .name .len) nameLimit (start .pre .0 .0)
 
   all-left : LeftOf (head ++ (name ++ (offsets ++ (turned ++ [])))) (start .args .at) (start .args .out .now)
   all-left =
