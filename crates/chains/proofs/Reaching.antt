@@ -16,7 +16,7 @@ use Rattle.model.proofs.Chains.Steps.{Ends, steps-zero, steps-within, steps-pre
 use Rattle.pose.specs.Poses.{Within, reach}
 use Rattle.pose.proofs.Bounds.{within-origin, within-more, within-followed}
 use Rattle.chains.specs.Frames.{frame, framed, offsetAt, turnsAt}
-use Rattle.chains.specs.Walk.{Walk, walked, atFixed, linkOn, Walkable, Laid, Enough, poseAt, Linkable}
+use Rattle.chains.specs.Walk.{farthest, Walk, walked, atFixed, linkOn, Walkable, Laid, Enough, poseAt, Linkable}
 use Rattle.chains.proofs.Laid.{framed-length, framed-at}
 
 -- ---- bounds: each link adds at most one own offset
@@ -35,10 +35,13 @@ module _ (l : List System) (w : Walkable l) where
   pub enough-from : (q : ℕ) → q ≤ length l → Enough l q maxSystems
   enough-from q h = record { there = h; deep = few-steps q h; bounded = omega arith }
 
-  pub resultant-within : (q : ℕ) → q ≤ length l → Within reach (resultant l q .at)
+  pub resultant-far : (q : ℕ) → q ≤ length l → Within farthest (resultant l q .at)
   unfolding resultant
-  resultant-within q h =
-      within-more (steps l q * offsetLimit) reach (resultant l q .at) (omega (arith, few-steps q h)) (within-over (steps l q) q)
+  resultant-far q h =
+      within-more (steps l q * offsetLimit) farthest (resultant l q .at) (omega (arith, few-steps q h)) (within-over (steps l q) q)
+
+  pub resultant-within : (q : ℕ) → q ≤ length l → Within reach (resultant l q .at)
+  resultant-within q h = within-more farthest reach (resultant l q .at) (omega arith) (resultant-far q h)
 
 -- ---- one link on, over flat numbers
 

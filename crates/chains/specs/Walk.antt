@@ -13,6 +13,10 @@ use Rattle.pose.specs.Poses.{poseOf, Within, reach}
 use Rattle.chains.specs.declared.frames.Reached.{Reached}
 use Rattle.chains.specs.Frames.{offsetAt, turnsAt, framed}
 
+-- how far off the origin a chain can lead: each link adds at most one own offset
+abbrev pub farthest : ℕ
+farthest = maxSystems * offsetLimit
+
 -- a resultant, and the number of links to it
 pub record Walk : Type 0 where
   pub pose : Pose

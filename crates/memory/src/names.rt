@@ -44,7 +44,7 @@ pub fn legal_bytes(t: &[u8]) -> bool
     if NAME_LIMIT < n {
         return false;
     }
-    if !between(65, 90, t[0]) {
+    if !between(b'A', b'Z', t[0]) {
         return false;
     }
     let mut i = 1;

@@ -1,5 +1,5 @@
 -- From what the engine gives for a line to what is said.
-use Prim.Native.Nat.{ℕ, _≤_}
+use Prim.Native.Nat.{ℕ, _≤_, _<_}
 use mathlib.Core.Path.{_≡_, refl, sym, ap, _∙_}
 use mathlib.Core.List.{List}
 use mathlib.Core.Bool.{true}
@@ -11,7 +11,8 @@ use lib.ListN.{length, drop, length-append}
 use Rattle.model.specs.Ascii.{ascii}
 use Rattle.model.specs.Reply.{decimal}
 use Rattle.print.specs.Over.{Wrote}
-use Rattle.print.proofs.Laws.{decimal-short, over-front}
+use Rattle.model.proofs.Digits.{decimal-short}
+use Rattle.print.proofs.Laws.{over-front}
 use Rattle.model.specs.declared.State.{State as StoredState}
 use Rattle.model.specs.Limits.{bufferLimit}
 use Rattle.model.specs.Memory.{State}
@@ -50,13 +51,14 @@ view-is s st e =
 fits : (t b : List ℕ) → length (written t b) ≡ length b → length t ≤ length b
 fits t b e = omega (arith, e, length-append t (drop (length t) b))
 
-refusal-short : (n : ℕ) → length (refusalText n) ≤ 8
-refusal-short n = omega (arith, length-append (decimal n) (ascii "\n"), decimal-short n)
+-- the number is a byte
+refusal-short : (n : ℕ) → n < 256 → length (refusalText n) ≤ 6
+refusal-short n h = omega (arith, length-append (decimal n) (ascii "\n"), decimal-short 3 n (omega arith) (omega arith))
 
 -- E and the number, written from place 0 on
-pub refusal-written : (k : ℕ) (b d : List ℕ) (n : ℕ) → bufferLimit ≤ length b → Wrote (refusalText k) b 0 d n → Replied (refusalText k) b d n
-refusal-written k b d n h w =
-    record { count-is = omega (arith, w .place); bytes = w .bytes ∙ over-front (refusalText k) b (omega (arith, refusal-short k)) }
+pub refusal-written : (k : ℕ) → k < 256 → (b d : List ℕ) (n : ℕ) → bufferLimit ≤ length b → Wrote (refusalText k) b 0 d n → Replied (refusalText k) b d n
+refusal-written k small b d n h w =
+    record { count-is = omega (arith, w .place); bytes = w .bytes ∙ over-front (refusalText k) b (omega (arith, refusal-short k small)) }
 
 -- ---- one line
 

@@ -84,7 +84,7 @@ unfolding done shaped
 returns-6 c = rw (c .before .deed5 .given .1, done) (refl, λ h. h)
 
 returns-7 : tie.Need-returns-7
-unfolding done shaped
+unfolding done
 returns-7 c = let s = c .before .before .before .before .args .s in rw (c .enum-told2 .given .1, done) (refl, λ h. shape-both _ (shape-parts s h .0) (shape-parts s h .0))
 
 returns-8 : tie.Need-returns-8
