@@ -16,7 +16,7 @@ use Rattle.model.proofs.Chains.Steps.{Ends, steps-zero, steps-within, steps-pre
 use Rattle.pose.specs.Poses.{Within, reach}
 use Rattle.pose.proofs.Bounds.{within-origin, within-more, within-followed}
 use Rattle.chains.specs.Frames.{frame, framed, offsetAt, turnsAt}
-use Rattle.chains.specs.Walk.{Walk, walked, atFixed, linkOn, Walkable, Laid, Enough, poseAt, Linkable}
+use Rattle.chains.specs.Walk.{farthest, Walk, walked, atFixed, linkOn, Walkable, Laid, Enough, poseAt, Linkable}
 use Rattle.chains.proofs.Laid.{framed-length, framed-at}
 
 -- ---- bounds: each link adds at most one own offset
@@ -35,10 +35,13 @@ module _ (l : List System) (w : Walkable l) where
   pub enough-from : (q : ℕ) → q ≤ length l → Enough l q maxSystems
   enough-from q h = record { there = h; deep = few-steps q h; bounded = omega arith }
 
-  pub resultant-within : (q : ℕ) → q ≤ length l → Within reach (resultant l q .at)
+  pub resultant-far : (q : ℕ) → q ≤ length l → Within farthest (resultant l q .at)
   unfolding resultant
-  resultant-within q h =
-      within-more (steps l q * offsetLimit) reach (resultant l q .at) (omega (arith, few-steps q h)) (within-over (steps l q) q)
+  resultant-far q h =
+      within-more (steps l q * offsetLimit) farthest (resultant l q .at) (omega (arith, few-steps q h)) (within-over (steps l q) q)
+
+  pub resultant-within : (q : ℕ) → q ≤ length l → Within reach (resultant l q .at)
+  resultant-within q h = within-more farthest reach (resultant l q .at) (omega arith) (resultant-far q h)
 
 -- ---- one link on, over flat numbers
 
@@ -54,8 +57,13 @@ pred-here l (suc i) = refl
 pub walked-fixed : (l : List System) (q : ℕ) → q ≡ 0 → atFixed ≡ walked l q
 walked-fixed l q e = (λ d. record { pose = sym (resultant-zero l) d; steps = sym (steps-zero l) d }) ∙ ap (walked l) (sym e)
 
--- place q, that of system i
-module _ (xs : List ℤ) (ts ps : List ℕ) (h : Laid xs ts ps) (q i : ℕ) (is : q ≡ suc i) (there : q ≤ length (framed xs ts ps)) where
+-- place q is that of system i
+pub record UserPlace (xs : List ℤ) (ts ps : List ℕ) (q i : ℕ) : Type 0 where
+  pub laid : Laid xs ts ps
+  pub is : q ≡ suc i
+  pub there : q ≤ length (framed xs ts ps)
+
+module _ {xs : List ℤ} {ts ps : List ℕ} {q i : ℕ} (u : UserPlace xs ts ps q i) where
   abbrev l : List System
   l = framed xs ts ps
 
@@ -63,22 +71,22 @@ module _ (xs : List ℤ) (ts ps : List ℕ) (h : Laid xs ts ps) (q i : ℕ) (is 
   p = getD ps i 0
 
   pub in-preds : i < length ps
-  in-preds = omega (arith, framed-length xs ts ps, is)
+  in-preds = omega (arith, framed-length xs ts ps, u .is, u .there)
 
   frame-here : systemAt l q ≡ frame (offsetAt xs i) (turnsAt ts i) p
-  frame-here = system-user l q i is ∙ framed-at xs ts ps i in-preds
+  frame-here = system-user l q i (u .is) ∙ framed-at xs ts ps i in-preds
 
   link : predOf l q ≡ p
   link = pred-here l q ∙ ap (λ (s : System). s .pred) frame-here
 
   pub pred-there : p ≤ length l
-  pred-there = rw (sym link) (pred-in-range l (h .systems .preds) q)
+  pred-there = rw (sym link) (pred-in-range l (u .laid .systems .preds) q)
 
   ends : Ends l q
-  ends = ring-free l (h .systems .ringless) q there
+  ends = ring-free l (u .laid .systems .ringless) q (u .there)
 
   pub steps-link : steps l q ≡ suc (steps l p)
-  steps-link = steps-pred l q (omega (arith, is)) ends ∙ ap (λ (j : ℕ). suc (steps l j)) link
+  steps-link = steps-pred l q (omega (arith, u .is)) ends ∙ ap (λ (j : ℕ). suc (steps l j)) link
 
   pub enough-on : (depth : ℕ) → Enough l q depth → Enough l p (depth - 1)
   enough-on depth e = record { there = pred-there; deep = omega (arith, steps-link, e .deep); bounded = omega (arith, e .bounded) }
@@ -88,18 +96,18 @@ module _ (xs : List ℤ) (ts ps : List ℕ) (h : Laid xs ts ps) (q i : ℕ) (is 
   own-here = ap (λ (s : System). record { at = s .offset; rot = rotOf (s .turns) }) frame-here
 
   resultant-link : resultant l q ≡ followed (resultant l p) (poseAt xs ts i)
-  resultant-link = resultant-pred l q (omega (arith, is)) ends ∙ (λ d. followed (resultant l (link d)) (own-here d))
+  resultant-link = resultant-pred l q (omega (arith, u .is)) ends ∙ (λ d. followed (resultant l (link d)) (own-here d))
 
   -- what is reached at the predecessor can be followed on from, and that is what is reached at the place
-  module _ (w : Walk) (known : w ≡ walked l p) where
+  module _ {w : Walk} (known : w ≡ walked l p) where
     pub can-link : Linkable xs ts i w
     can-link =
         record {
-          numbers = (omega (arith, in-preds, h .offsets), omega (arith, in-preds, h .turns));
-          near = subst (λ (v : Walk). Within reach (v .pose .at)) (sym known) (resultant-within l (h .systems) p pred-there);
+          numbers = (omega (arith, in-preds, u .laid .offsets), omega (arith, in-preds, u .laid .turns));
+          near = subst (λ (v : Walk). Within reach (v .pose .at)) (sym known) (resultant-within l (u .laid .systems) p pred-there);
           own =
-              within-more offsetLimit reach (offsetAt xs i) (omega arith) (subst (λ (s : System). Within offsetLimit (s .offset)) frame-here (h .systems .offsets q));
-          steps = omega (arith, ap (λ (v : Walk). v .steps) known, steps-link, few-steps l (h .systems) q there);
+              within-more offsetLimit reach (offsetAt xs i) (omega arith) (subst (λ (s : System). Within offsetLimit (s .offset)) frame-here (u .laid .systems .offsets q));
+          steps = omega (arith, ap (λ (v : Walk). v .steps) known, steps-link, few-steps l (u .laid .systems) q (u .there));
         }
 
     pub walked-on : {v : Walk} → v ≡ linkOn w (poseAt xs ts i) → v ≡ walked l q

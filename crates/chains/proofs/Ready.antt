@@ -1,7 +1,7 @@
 -- From a well-formed memory to what the walk asks, and from what the walk gives back to the memory's own resultants.
 use Prim.Native.Nat.{ℕ, zero, suc, _*_, _≤_, _<_}
 use mathlib.Core.Path.{_≡_, refl, sym, ap, subst, _∙_}
-use mathlib.Core.Bool.{true, not, _&&_}
+use mathlib.Core.Bool.{true, _&&_}
 use mathlib.Core.List.{List}
 use native.Mathlib.Omega.{arith}
 use native.Mathlib.Decide.{decLt}
@@ -10,11 +10,11 @@ use lib.IntN.{ℤ, natAbs}
 use lib.ListN.{length, length-map, List·getD-map}
 use Rattle.model.specs.Limits.{maxSystems, offsetLimit}
 use Rattle.model.specs.declared.Vec3.{Vec3}
-use Rattle.model.specs.Words.{legalName, reserved, offset?}
+use Rattle.model.specs.Words.{offset?}
 use Rattle.model.specs.Memory.{System, Memory, systemAt, blank}
-use Rattle.model.specs.WellFormed.{memoryFine, offsetsFine, turnsFine}
+use Rattle.model.specs.WellFormed.{memoryFine, offsetsFine}
 use Rattle.model.proofs.Basics.{and-split}
-use Rattle.model.proofs.Memories.Fine.{Systems, ownFine, fine-of, preds-within, blank-beyond}
+use Rattle.model.proofs.Memories.Fine.{Systems, own-of, fine-of, preds-within, blank-beyond}
 use Rattle.pose.specs.Poses.{Within}
 use Rattle.pose.proofs.Bounds.{within-origin}
 use Rattle.chains.specs.Flat.{predsOf}
@@ -35,13 +35,6 @@ offsets-in t e =
     let b = and-split (offset? (t .x)) (offset? (t .y)) (a .0) in
     record { x-within = offset-in (t .x) (b .0); y-within = offset-in (t .y) (b .1); z-within = offset-in (t .z) (a .1) }
 
-own-offsets : (s : System) → ownFine s ≡ true → Within offsetLimit (s .offset)
-own-offsets s e =
-    let named = legalName (s .name) && not (reserved (s .name)) in
-    let a = and-split (named && offsetsFine (s .offset) && turnsFine (s .turns)) _ e in
-    let b = and-split (named && offsetsFine (s .offset)) (turnsFine (s .turns)) (a .0) in
-    offsets-in (s .offset) (and-split named (offsetsFine (s .offset)) (b .0) .1)
-
 -- where no system stands, the offsets are 0
 offsets-at : (l : List System) → Systems l → (q : ℕ) → Within offsetLimit (systemAt l q .offset)
 unfolding systemAt
@@ -50,7 +43,7 @@ offsets-at l f (suc i) = go (decLt (length l) (suc i))
   where
     go : Dec (length l < suc i) → Within offsetLimit (systemAt l (suc i) .offset)
     go (yes h) = rw (blank-beyond l (suc i) h) (within-origin offsetLimit)
-    go (no h) = own-offsets (systemAt l (suc i)) (f .own (suc i) (omega arith, omega arith))
+    go (no h) = offsets-in (systemAt l (suc i) .offset) (own-of (systemAt l (suc i)) (f .own (suc i) (omega arith, omega arith)) .offset)
 
 pub walkable : (m : Memory) → memoryFine m ≡ true → Walkable (m .systems)
 walkable m e =

@@ -13,6 +13,10 @@ use Rattle.pose.specs.Poses.{poseOf, Within, reach}
 use Rattle.chains.specs.declared.frames.Reached.{Reached}
 use Rattle.chains.specs.Frames.{offsetAt, turnsAt, framed}
 
+-- how far off the origin a chain can lead: each link adds at most one own offset
+abbrev pub farthest : ℕ
+farthest = maxSystems * offsetLimit
+
 -- a resultant, and the number of links to it
 pub record Walk : Type 0 where
   pub pose : Pose
@@ -32,10 +36,6 @@ atFixed = record { pose = neutral; steps = 0 }
 -- a walk, and a system's own pose followed on from it
 abbrev pub linkOn : Walk → Pose → Walk
 linkOn w own = record { pose = followed (w .pose) own; steps = w .steps + 1 }
-
--- of a place up to i, it is known what is reached there
-abbrev pub KnownUpTo : List System → ℕ → ℕ → Walk → Type 0
-KnownUpTo l i place w = place ≤ i → w ≡ walked l place
 
 -- every chain ends, and no sum on the way grows too large. Every well-formed memory has it (`walkable` in proofs/Ready.antt)
 pub record Walkable (l : List System) : Type 0 where

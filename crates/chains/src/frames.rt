@@ -1,23 +1,23 @@
 // Frames: own offsets and turns beside the links, and the resultant that the walk along them reaches.
 use crate::links::held;
+use facts::limits::MAX_SYSTEMS;
 use model::Memory;
 use model::Turns;
 use model::Vec3;
 use pose::Pose;
 ghost use mathlib.Core.Path.{_≡_};
-ghost use Prim.Native.Nat.{_+_, _≤_, _<_};
-ghost use lib.ListN.{length, getD};
+ghost use Prim.Native.Nat.{_≤_};
 ghost use Rattle.model.specs.Limits.{maxSystems};
 ghost use Rattle.model.specs.Stored.{systemsOf};
 ghost use Rattle.pose.specs.Poses.{poseOf};
 ghost use Rattle.chains.specs.Flat.{predsOf};
 ghost use Rattle.chains.specs.Frames.{framed, framesOf};
-ghost use Rattle.chains.specs.Walk.{walkOf, walked, atFixed, linkOn, KnownUpTo, poseAt, Holds, Linkable, Laid, Enough};
+ghost use Rattle.chains.specs.Walk.{walkOf, walked, atFixed, linkOn, poseAt, Holds, Linkable, Laid, Enough};
 
 // Own offsets and turns, three numbers to a system.
 pub struct Frames {
-    pub offsets: [i64; 48],
-    pub turns: [u8; 48],
+    pub offsets: [i64; MAX_SYSTEMS * 3],
+    pub turns: [u8; MAX_SYSTEMS * 3],
 }
 
 // The frames of a memory. Its links are the other half of what a walk needs.
@@ -25,8 +25,8 @@ pub fn frames_of(m: Memory) -> Frames
     ensures { λ r. ⌜ framed (r .offsets) (r .turns) (predsOf (systemsOf m)) ≡ framesOf (systemsOf m) ⌝ }
 {
     let count = held(m.count);
-    let mut offsets = [0i64; 48];
-    let mut turns = [0u8; 48];
+    let mut offsets = [0i64; MAX_SYSTEMS * 3];
+    let mut turns = [0u8; MAX_SYSTEMS * 3];
     let mut i = 0;
     while i < count {
         let s = m.systems[i];
@@ -74,7 +74,7 @@ fn own(offsets: &[i64], turns: &[u8], i: usize) -> Pose
 pub fn unmoved() -> Reached
     ensures { λ r. ⌜ walkOf r ≡ atFixed ⌝ }
 {
-    let pose = Pose::NEUTRAL;
+    let pose = Pose::neutral();
     Reached { pose, steps: 0 }
 }
 
@@ -90,34 +90,31 @@ fn linked(before: Reached, offsets: &[i64], turns: &[u8], i: usize) -> Reached
     Reached { pose, steps }
 }
 
-// The resultant of a place and its steps, by a walk to its predecessor with one link less of depth. For a well-formed
-// memory a depth of 16 is enough.
-pub fn reach(offsets: &[i64], turns: &[u8], preds: &[u8], place: usize, depth: usize) -> Reached
+// The resultant of a place and its steps, by a walk to its predecessor with one link less of depth. It ends at the fixed system, or sooner at a
+// place `stop` that has been reached before: what is reached there is known. In a well-formed memory a depth of MAX_SYSTEMS is enough for every place.
+pub fn reach(
+    offsets: &[i64],
+    turns: &[u8],
+    preds: &[u8],
+    stop: usize,
+    known: Reached,
+    place: usize,
+    depth: usize,
+) -> Reached
     requires { ⌜ Laid (now offsets) (now turns) (now preds) ⌝ }
+    requires { ⌜ walkOf known ≡ walked (framed (now offsets) (now turns) (now preds)) stop ⌝ }
     requires { ⌜ Enough (framed (now offsets) (now turns) (now preds)) place depth ⌝ }
     ensures { λ r. ⌜ walkOf r ≡ walked (framed (now (offsets .entry)) (now (turns .entry)) (now (preds .entry))) place ⌝ }
     ensures { λ r. ⌜ r .steps ≤ maxSystems ⌝ }
 {
+    if place == stop {
+        return known;
+    }
     if place == 0 {
         return unmoved();
     }
     let i = place - 1;
     let pred = preds[i] as usize;
-    let before = reach(offsets, turns, preds, pred, depth - 1);
+    let before = reach(offsets, turns, preds, stop, known, pred, depth - 1);
     linked(before, offsets, turns, i)
-}
-
-// The resultant of system i: where its predecessor's place comes before its own, one link on from what is known to be
-// reached there; else by a walk.
-pub fn reach_from(before: Reached, offsets: &[i64], turns: &[u8], preds: &[u8], i: usize) -> Reached
-    requires { ⌜ Laid (now offsets) (now turns) (now preds) ⌝ }
-    requires { ⌜ i < length (now preds) ⌝ }
-    requires { ⌜ KnownUpTo (framed (now offsets) (now turns) (now preds)) i (getD (now preds) i 0) (walkOf before) ⌝ }
-    ensures { λ r. ⌜ walkOf r ≡ walked (framed (now (offsets .entry)) (now (turns .entry)) (now (preds .entry))) (i + 1) ⌝ }
-{
-    let pred = preds[i] as usize;
-    if pred <= i {
-        return linked(before, offsets, turns, i);
-    }
-    reach(offsets, turns, preds, i + 1, 16)
 }

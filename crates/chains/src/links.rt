@@ -1,4 +1,5 @@
 // The links of a memory: what the questions of ring, chain and use look at.
+use facts::limits::MAX_SYSTEMS;
 use model::Enabled;
 use model::Memory;
 use model::OperatingPart;
@@ -15,7 +16,7 @@ ghost use Rattle.chains.specs.Flat.{linkedBy, LinksOf, memoryBy, usedBy}
 
 // The predecessors' places of the first count systems.
 pub struct Links {
-    pub preds: [u8; 16],
+    pub preds: [u8; MAX_SYSTEMS],
     pub count: usize,
 }
 
@@ -23,18 +24,19 @@ pub struct Links {
 pub fn held(count: u8) -> usize
     ensures { λ r. ⌜ r ≡ min count maxSystems ⌝ }
 {
-    if count < 16 { count as usize } else { 16 }
+    let n = count as usize;
+    if n < MAX_SYSTEMS { n } else { MAX_SYSTEMS }
 }
 
-// The links of a memory, whatever it holds: a predecessor's place may lie beyond the last system. All 16 are laid flat, so that the number of turns is
-// known to the compiler and it copies no memory.
+// The links of a memory, whatever it holds: a predecessor's place may lie beyond the last system. The whole array is laid flat, so that the number of
+// turns is known to the compiler and it copies no memory.
 pub fn links_of(m: Memory) -> Links
     ensures { λ r. ⌜ LinksOf (systemsOf m) (r .preds) (r .count) ⌝ }
 {
     let count = held(m.count);
-    let mut preds = [0u8; 16];
+    let mut preds = [0u8; MAX_SYSTEMS];
     let mut i = 0;
-    while i < 16 {
+    while i < MAX_SYSTEMS {
         preds[i] = m.systems[i].pred;
         i += 1;
     }

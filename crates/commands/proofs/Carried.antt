@@ -1,12 +1,13 @@
 -- What is decided of a change, by its number, and what a ladder that was passed says of the places.
 use Prim.Native.Nat.{ℕ, _<_, _≤_}
 use mathlib.Core.Path.{_≡_, refl, sym, ap, _∙_}
-use mathlib.Core.Bool.{Bool, true, false}
+use mathlib.Core.Bool.{true, false, _||_}
 use mathlib.Core.List.{List, [], _∷_}
 use native.Mathlib.Omega.{arith}
 use borrow.Author.Tests.{eq-eqb, ne-eqb, leb-false}
 use lib.Dec.{eqb}
-use lib.ListN.{length}
+use lib.ListN.{length, drop}
+use Rattle.model.specs.Limits.{maxSystems}
 use Rattle.model.specs.declared.Kind.{Kind}
 use Rattle.model.specs.declared.Vec3.{Vec3}
 use Rattle.model.specs.declared.Turns.{Turns}
@@ -14,15 +15,22 @@ use Rattle.model.specs.declared.System.{System as StoredSystem}
 use Rattle.model.specs.declared.Memory.{Memory as StoredMemory}
 use Rattle.model.specs.declared.State.{State as StoredState}
 use Rattle.model.specs.Memory.{Memory, State, isUser, placeNamed}
-use Rattle.model.specs.Request.{Change, define, link, copy, remove}
-use Rattle.model.specs.Refusals.{Rung, first, changeLadder, absent, noRoom}
-use Rattle.model.specs.Effects.{withVolatile, put, fresh, changed}
+use Rattle.model.specs.Request.{Change, asks, change, define, link, copy, remove}
+use Rattle.model.specs.Lists.{all, any}
+use Rattle.model.specs.Words.{reserved}
+use Rattle.model.specs.Refusals.{precedence, first, readingLadder, requestLadder, changeLadder, absent, noRoom}
+use Rattle.model.specs.Claims.{applies, inOrder}
+use Rattle.model.specs.Effects.{withVolatile, withError, put, fresh, changed, next}
+use Rattle.model.specs.Reply.{reply}
+use Rattle.model.specs.Machine.{refused, answered, carriedOut, judged}
 use Rattle.model.specs.Stored.{systemOf, systemsOf, memoryOf, stateOf, nameShaped}
 use Rattle.model.proofs.Basics.{or-false}
+use Rattle.model.proofs.Ladder.First.{none-applies}
+use Rattle.model.proofs.Ladder.Refusing.{judged-refused, judged-taken}
 use Rattle.model.proofs.Memories.Named.{place-within, present-user}
 use Rattle.memory.specs.Put.{putAt}
 use Rattle.memory.proofs.ByName.{put-by-place}
-use Rattle.commands.specs.Given.{given, givenBy, accepts, refuses}
+use Rattle.commands.specs.Obeyed.{obeyed}
 use Rattle.commands.specs.declared.subject.Looked.{Looked}
 use Rattle.commands.specs.declared.changed.Deed.{Deed}
 use Rattle.commands.specs.declared.changed.Deed.the-variants.{SetError, Put}
@@ -32,14 +40,17 @@ use Rattle.commands.specs.Subject.{Sees}
 
 -- ---- the number decides
 
-module _ (st : State) (c : Change) (n : ℕ) (e : n ≡ first (changeLadder st (st .volatile) c)) where
-  given-refused : (n ≡ 0 → ⊥) → given st c ≡ refuses st n
-  unfolding given givenBy
-  given-refused z = ap (givenBy st c) (sym e) ∙ rw (ne-eqb n 0 z, givenBy)
+module _ (st : State) (c : Change) (n : ℕ) (e : n ≡ first (changeLadder st (st .volatile) c)) (b : List ℕ) where
+  judged-so : obeyed st (asks (change c)) b ≡ judged st n (asks (change c)) b
+  unfolding obeyed readingLadder requestLadder
+  judged-so = ap (λ (k : ℕ). judged st k (asks (change c)) b) (sym e)
 
-  given-accepted : n ≡ 0 → given st c ≡ accepts (changed st (st .volatile) c)
-  unfolding given givenBy
-  given-accepted z = ap (givenBy st c) (sym e) ∙ rw (eq-eqb n 0 z, givenBy)
+  obeyed-refused : (n ≡ 0 → ⊥) → obeyed st (asks (change c)) b ≡ refused (withError st n) n b
+  obeyed-refused z = judged-so ∙ judged-refused st n (asks (change c)) b (ne-eqb n 0 z)
+
+  obeyed-accepted : n ≡ 0 → obeyed st (asks (change c)) b ≡ answered (changed st (st .volatile) c) [] b
+  unfolding carriedOut next reply
+  obeyed-accepted z = judged-so ∙ judged-taken st n (asks (change c)) b (eq-eqb n 0 z)
 
 -- a decision of this number, that does this, and whose system can be stored
 abbrev Decided : ℕ → Deed → Decision → Type 0
@@ -53,27 +64,21 @@ module _ (s : StoredState) (c : Change) (n : ℕ) (e : n ≡ first (changeLadder
   unfolding done Fits
   decides-refused d z p =
       record {
-        given-is = (λ i. record { state = done (p .1 i) (systemOf (d .system)) st; number = p .0 i }) ∙ sym (given-refused st c n e z);
+        outcome = λ b. (λ i. record { state = done (p .1 i) (systemOf (d .system)) st; number = p .0 i; count = 0; buffer = b }) ∙ sym (obeyed-refused st c n e b z);
         doable = record { fits = rw (p .1, Fits) tt; named = p .2 };
       }
 
   pub decides-accepted : (d : Decision) (deed : Deed) → n ≡ 0 → Decided 0 deed d → Fits deed (s .volatile) → done deed (systemOf (d .system)) st ≡ changed st (st .volatile) c → Decides s c d
   decides-accepted d deed z p f q =
       record {
-        given-is = (λ i. record { state = done (p .1 i) (systemOf (d .system)) st; number = p .0 i }) ∙ ap accepts q ∙ sym (given-accepted st c n e z);
+        outcome = λ b. (λ i. record { state = done (p .1 i) (systemOf (d .system)) st; number = p .0 i; count = 0; buffer = b }) ∙ ap (λ (t : State). answered t [] b) q ∙ sym (obeyed-accepted st c n e b z);
         doable = record { fits = rw (p .1) f; named = p .2 };
       }
 
   -- x is put at the place k
-  pub decides-put : (d : Decision) (k : ℕ) (x : StoredSystem) → n ≡ 0 → d ≡ record { number = 0; deed = Put k; system = x } → nameShaped x ≡ true → (k ≤ 16) × (k ≡ 0 → s .volatile .count < 16) → withVolatile st (putAt (st .volatile) k (systemOf x)) ≡ changed st (st .volatile) c → Decides s c d
+  pub decides-put : (d : Decision) (k : ℕ) (x : StoredSystem) → n ≡ 0 → d ≡ record { number = 0; deed = Put k; system = x } → nameShaped x ≡ true → (k ≤ maxSystems) × (k ≡ 0 → s .volatile .count < maxSystems) → withVolatile st (putAt (st .volatile) k (systemOf x)) ≡ changed st (st .volatile) c → Decides s c d
   unfolding done Fits
   decides-put d k x z p named f q = rw p (decides-accepted (record { number = 0; deed = Put k; system = x }) (Put k) z (refl, refl, named) f q)
-
--- a ladder that gives 0: its first number does not apply, nor does any later one
-passed : (n : ℕ) (t : Bool) (rs : List Rung) → 0 < n → first ((n, t) ∷ rs) ≡ 0 → (t ≡ false) × (first rs ≡ 0)
-unfolding first
-passed n true rs h e = absurd (omega arith)
-passed n false rs h e = (refl, e)
 
 -- the only number of RPA and DPA
 module _ (level : ℕ) where
@@ -90,49 +95,36 @@ module _ (level : ℕ) where
 module _ (st : State) (m : Memory) where
   -- what is linked is a user system
   pub link-user : (a b : List ℕ) → first (changeLadder st m (link a b)) ≡ 0 → isUser m a ≡ true
-  unfolding changeLadder
+  unfolding changeLadder inOrder applies all any
   link-user a b e =
-      let p = passed 7 _ _ (omega arith) e in
-      let q = passed 8 _ _ (omega arith) (p .1) in
-      present-user m a (or-false (absent m a) (absent m b) (p .0) .0) (q .0)
+      let off = none-applies (drop 2 precedence) (changeLadder st m (link a b)) refl refl e in
+      present-user m a (or-false (absent m a) _ (or-false (absent m a || absent m b) _ (off 7) .0) .0) (or-false (reserved a) _ (off 8) .0)
 
   -- what is removed is a user system
   pub remove-user : (a : List ℕ) → first (changeLadder st m (remove a)) ≡ 0 → isUser m a ≡ true
-  unfolding changeLadder
+  unfolding changeLadder inOrder applies all any
   remove-user a e =
-      let p = passed 7 _ _ (omega arith) e in
-      let q = passed 8 _ _ (omega arith) (p .1) in
-      present-user m a (p .0) (q .0)
+      let off = none-applies (drop 2 precedence) (changeLadder st m (remove a)) refl refl e in
+      present-user m a (or-false (absent m a) _ (off 7) .0) (or-false (reserved a) _ (off 8) .0)
 
-  pub define-room : (k : Kind) (n : List ℕ) (t : Vec3) (u : Turns) → first (changeLadder st m (define k n t u)) ≡ 0 → noRoom m n ≡ false
-  unfolding changeLadder
-  define-room k n t u e =
-      let p = passed 8 _ _ (omega arith) e in
-      let q = passed 9 _ _ (omega arith) (p .1) in
-      let r = passed 10 _ _ (omega arith) (q .1) in
-      let s = passed 11 _ _ (omega arith) (r .1) in
-      passed 13 _ _ (omega arith) (s .1) .0
+  -- what is defined or copied finds its place
+  pub define-room : (k : Kind) (n : List ℕ) (t : Vec3) (u : Turns) → first (changeLadder st m (define k n t u)) ≡ 0 → noRoom (m .systems) (placeNamed (m .systems) n) ≡ false
+  unfolding changeLadder inOrder applies all any
+  define-room k n t u e = or-false _ _ (none-applies (drop 2 precedence) (changeLadder st m (define k n t u)) refl refl e 13) .0
 
-  pub copy-room : (s d : List ℕ) → first (changeLadder st m (copy s d)) ≡ 0 → noRoom m d ≡ false
-  unfolding changeLadder
-  copy-room s d e =
-      let p = passed 7 _ _ (omega arith) e in
-      let q = passed 8 _ _ (omega arith) (p .1) in
-      let r = passed 9 _ _ (omega arith) (q .1) in
-      let t = passed 10 _ _ (omega arith) (r .1) in
-      let u = passed 11 _ _ (omega arith) (t .1) in
-      let v = passed 12 _ _ (omega arith) (u .1) in
-      passed 13 _ _ (omega arith) (v .1) .0
+  pub copy-room : (s d : List ℕ) → first (changeLadder st m (copy s d)) ≡ 0 → noRoom (m .systems) (placeNamed (m .systems) d) ≡ false
+  unfolding changeLadder inOrder applies all any
+  copy-room s d e = or-false _ _ (none-applies (drop 2 precedence) (changeLadder st m (copy s d)) refl refl e 13) .0
 
 -- what was seen of a memory, and a name that was looked for in it
 module _ (m : StoredMemory) (x y : List ℕ) (k : Looked) (s : Sees m x y k) (n : List ℕ) where
-  pub place-few : placeNamed (systemsOf m) n ≤ 16
+  pub place-few : placeNamed (systemsOf m) n ≤ maxSystems
   place-few = omega (arith, place-within (systemsOf m) n, s .counted, s .links .few)
 
   -- one place is free for a new name that passed number 13
-  pub room : noRoom (memoryOf m) n ≡ false → placeNamed (systemsOf m) n ≡ 0 → m .count < 16
-  unfolding noRoom isUser
-  room e z = rw (s .stored) (leb-false 16 (length (systemsOf m)) (rw z at e))
+  pub room : noRoom (systemsOf m) (placeNamed (systemsOf m) n) ≡ false → placeNamed (systemsOf m) n ≡ 0 → m .count < maxSystems
+  unfolding noRoom
+  room e z = rw (s .stored) (leb-false maxSystems (length (systemsOf m)) (rw z at e))
 
 -- a definition is put at the place of its name
 pub defined-by-place : (m : Memory) (k : Kind) (n : List ℕ) (t : Vec3) (u : Turns) → put m (fresh m k n t u) ≡ putAt m (placeNamed (m .systems) n) (fresh m k n t u)

@@ -1,19 +1,20 @@
 -- What a decision makes of a state.
 use Prim.Native.Nat.{_≤_, _<_}
 use mathlib.Core.Path.{_≡_}
-use Rattle.model.specs.Base.{true}
+use Rattle.model.specs.Base.{ℕ, List, true}
 use Rattle.model.specs.declared.Memory.{Memory as StoredMemory}
 use Rattle.model.specs.declared.State.{State as StoredState}
 use Rattle.model.specs.Limits.{maxSystems}
 use Rattle.model.specs.Memory.{System, State, factory}
-use Rattle.model.specs.Request.{Change}
+use Rattle.model.specs.Request.{Change, asks, change}
+use Rattle.model.specs.Machine.{Outcome}
 use Rattle.model.specs.Effects.{withVolatile, withError, removedAt}
 use Rattle.model.specs.Stored.{systemOf, systemsOf, stateOf, nameShaped}
 use Rattle.memory.specs.Put.{putAt, holding}
 use Rattle.commands.specs.declared.changed.Deed.{Deed}
 use Rattle.commands.specs.declared.changed.Deed.the-variants.{Keep, SetError, Put, Remove, Enable, SetLevel, Save, Restore, Reset}
 use Rattle.commands.specs.declared.changed.Decision.{Decision}
-use Rattle.commands.specs.Given.{Given, given}
+use Rattle.commands.specs.Obeyed.{obeyed}
 use lib.ListN.{length}
 
 -- [Commands; Errors, end] the state once it is done; x is the system that is put
@@ -45,11 +46,11 @@ pub record Doable (m : StoredMemory) (d : Decision) : Type 0 where
   pub fits : Fits (d .deed) m
   pub named : nameShaped (d .system) ≡ true
 
--- what a decision gives in a state
-abbrev pub givenOf : Decision → State → Given
-givenOf d st = record { state = done (d .deed) (systemOf (d .system)) st; number = d .number }
+-- [Errors, end] the outcome of a decision in a state, with so many bytes written and the lent buffer as it is then
+abbrev pub outcomeOf : Decision → State → ℕ → List ℕ → Outcome
+outcomeOf d st count b = record { state = done (d .deed) (systemOf (d .system)) st; number = d .number; count = count; buffer = b }
 
--- the decision is the document's of the change c in the stored state s, and can be carried out
+-- the decision is the document's of the change c in the stored state s, which has no reply, and can be carried out
 pub record Decides (s : StoredState) (c : Change) (d : Decision) : Type 0 where
-  pub given-is : givenOf d (stateOf s) ≡ given (stateOf s) c
+  pub outcome : (b : List ℕ) → outcomeOf d (stateOf s) 0 b ≡ obeyed (stateOf s) (asks (change c)) b
   pub doable : Doable (s .volatile) d

@@ -1,5 +1,4 @@
-pub mod Given
+pub mod Obeyed
 pub mod Done
 pub mod Rungs
 pub mod Subject
-pub mod Conditions

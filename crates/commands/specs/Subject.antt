@@ -3,24 +3,27 @@ use mathlib.Core.Path.{_≡_}
 use lib.ListN.{length}
 use Rattle.model.specs.Base.{ℕ, List, true}
 use Rattle.model.specs.declared.Memory.{Memory as StoredMemory}
-use Rattle.model.specs.Memory.{Memory, State, placeNamed, find, named, userNamed, systemAt}
+use Rattle.model.specs.Memory.{Memory, State, Meant, meant, find, systemAt}
 use Rattle.model.specs.Request.{Change}
 use Rattle.model.specs.Refusals.{absent, first, changeLadder}
 use Rattle.model.specs.Words.{reserved}
+use Rattle.model.specs.Told.{orNumber}
 use Rattle.model.specs.Stored.{systemOf, systemsOf, memoryOf, nameShaped}
 use Rattle.chains.specs.Flat.{LinksOf}
-use Rattle.memory.specs.Found.{foundRef}
+use Rattle.memory.specs.Found.{foundTold}
 use Rattle.commands.specs.declared.subject.Subject.{Subject}
 use Rattle.commands.specs.declared.subject.Looked.{Looked}
 
+-- what it says of the name's system
+abbrev pub meantOf : Subject → Meant
+meantOf x = record { place = x .place; group = x .group; kind = x .kind }
+
 -- all that is stored of it is right of the name n in the memory m
 pub record Tells (m : Memory) (n : List ℕ) (x : Subject) : Type 0 where
-  pub found-is : foundRef (m .systems) (x .found) ≡ find m n
+  pub found-is : foundTold (m .systems) (x .found) ≡ orNumber 7 (find m n)
   pub absent-is : x .absent ≡ absent m n
   pub reserved-is : x .reserved ≡ reserved n
-  pub place-is : x .place ≡ placeNamed (m .systems) n
-  pub group-is : x .group ≡ named m n .group
-  pub kind-is : x .kind ≡ userNamed m n .kind
+  pub meant-is : meantOf x ≡ meant m n
 
 -- all that was seen of the names a and b, and of the links, is right of the stored memory m
 pub record Sees (m : StoredMemory) (a b : List ℕ) (k : Looked) : Type 0 where

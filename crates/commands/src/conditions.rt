@@ -1,9 +1,12 @@
-// The conditions of numbers 9 to 13, over what the names were found to mean and the links that were seen.
+// The conditions of numbers 9 to 13, over what the names mean and the links that were seen.
 use crate::subject::Subject;
 use chains::links::Links;
 use chains::links::in_use;
 use chains::links::on_chain;
-use memory::kinds::code_of;
+use facts::groups::guarded;
+use facts::groups::order_of;
+use facts::kinds::code_of;
+use facts::limits::MAX_SYSTEMS;
 use model::Enabled;
 use model::Group;
 use model::Kind;
@@ -11,50 +14,32 @@ ghost use mathlib.Core.Path.{_≡_};
 ghost use mathlib.Core.List.{List};
 ghost use Prim.Native.Nat.{_≤_};
 ghost use Rattle.model.specs.Limits.{maxSystems};
-ghost use Rattle.model.specs.Kinds.{ofGroup};
+ghost use lib.ListN.{length};
 ghost use Rattle.model.specs.Memory.{System};
+ghost use Rattle.model.specs.Use.{usedAt};
+ghost use Rattle.model.specs.Refusals.{locked, otherType, wrongPred, atOrBefore, noRoom};
 ghost use Rattle.chains.specs.Flat.{linkedBy, memoryBy, LinksOf};
 ghost use Rattle.memory.specs.Put.{holding};
-ghost use Rattle.commands.specs.Conditions.{lockedAt, otherAt, wrongAt, usedAt, beforeAt, fullAt};
-
-fn guarded(g: Group) -> bool
-    ensures { λ r. ⌜ r ≡ ofGroup g .guarded ⌝ }
-{
-    match g {
-        Group::Operating => false,
-        Group::Orientational => true,
-        Group::Levelling => true,
-    }
-}
-
-fn order_of(g: Group) -> u8
-    ensures { λ r. ⌜ r ≡ ofGroup g .order ⌝ }
-{
-    match g {
-        Group::Operating => 0,
-        Group::Orientational => 1,
-        Group::Levelling => 2,
-    }
-}
+ghost use Rattle.commands.specs.Subject.{meantOf};
 
 // Level 0, and a group that needs level 1.
 pub fn locked(level: u8, g: Group) -> bool
-    ensures { λ r. ⌜ r ≡ lockedAt level g ⌝ }
+    ensures { λ r. ⌜ r ≡ locked level g ⌝ }
 {
     (level == 0) & guarded(g)
 }
 
 // There is a user system, of another type than k.
 pub fn other_type(x: Subject, k: Kind) -> bool
-    ensures { λ r. ⌜ r ≡ otherAt x k ⌝ }
+    ensures { λ r. ⌜ r ≡ otherType (meantOf x) k ⌝ }
 {
     let own = x.kind;
     (0 < x.place) & (code_of(own) != code_of(k))
 }
 
-// B is neither of A's type nor its group's fixed system.
+// B fits under A neither by its type nor as the fixed system.
 pub fn wrong_pred(a: Subject, b: Subject) -> bool
-    ensures { λ r. ⌜ r ≡ wrongAt a b ⌝ }
+    ensures { λ r. ⌜ r ≡ wrongPred (meantOf a) (meantOf b) ⌝ }
 {
     if b.place == 0 {
         let group = b.group;
@@ -77,13 +62,13 @@ fn used(preds: &[u8], e: Enabled, place: u8) -> bool
 }
 
 // There is a system at the place, and it is the other one or on its chain.
-fn at_or_before(preds: &[u8], place: u8, equal: bool, other: u8) -> bool
-    ensures { λ r. ⌜ r ≡ beforeAt (linkedBy (now (preds .entry))) place equal other ⌝ }
+fn at_or_before(preds: &[u8], place: u8, other: u8) -> bool
+    ensures { λ r. ⌜ r ≡ atOrBefore (linkedBy (now (preds .entry))) place other ⌝ }
 {
     if place == 0 {
         return false;
     }
-    if equal {
+    if place == other {
         return true;
     }
     on_chain(preds, place as usize, other as usize)
@@ -105,22 +90,22 @@ pub struct Ties {
     pub ring: bool,
 }
 
-pub fn ties_of(links: Links, e: Enabled, place: u8, equal: bool, other: u8) -> Ties
+pub fn ties_of(links: Links, e: Enabled, place: u8, other: u8) -> Ties
     requires { ⌜ links .count ≤ maxSystems ⌝ }
     ensures { λ r. ⌜ ((l : List System) → LinksOf l (links .preds) (links .count) → r .used ≡ usedAt (holding l e) place) ⌝ }
-    ensures { λ r. ⌜ ((l : List System) → LinksOf l (links .preds) (links .count) → r .ring ≡ beforeAt l place equal other) ⌝ }
+    ensures { λ r. ⌜ ((l : List System) → LinksOf l (links .preds) (links .count) → r .ring ≡ atOrBefore l place other) ⌝ }
 {
     let preds = links.preds;
     let count = links.count;
     let flat = &preds[..count];
     let in_use = used(flat, e, place);
-    let ring = at_or_before(flat, place, equal, other);
+    let ring = at_or_before(flat, place, other);
     Ties { used: in_use, ring }
 }
 
 // The name is new, and every place is taken.
 pub fn no_room(place: u8, count: usize) -> bool
-    ensures { λ r. ⌜ r ≡ fullAt place count ⌝ }
+    ensures { λ r. ⌜ ((l : List System) → count ≡ length l → r ≡ noRoom l place) ⌝ }
 {
-    (place == 0) & (16 <= count)
+    (place == 0) & (MAX_SYSTEMS <= count)
 }

@@ -8,7 +8,7 @@ use crate::conditions::wrong_pred;
 use crate::numbers::Rungs;
 use crate::numbers::first_number;
 use crate::subject::Looked;
-use memory::kinds::group_of;
+use facts::kinds::group_of;
 use model::Kind;
 use model::Memory;
 use model::Turns;
@@ -17,7 +17,6 @@ ghost use mathlib.Core.Path.{_≡_};
 ghost use mathlib.Core.List.{List};
 ghost use Prim.Native.Nat.{ℕ, _≤_};
 ghost use Rattle.model.specs.Limits.{maxSystems};
-ghost use Rattle.model.specs.Lists.{same};
 ghost use Rattle.model.specs.Request.{define, link, copy, remove, enable};
 ghost use Rattle.model.specs.Stored.{memoryOf};
 ghost use Rattle.commands.specs.Subject.{Sees, NumberOf};
@@ -41,17 +40,17 @@ pub fn judge_define(k: Looked, level: u8, kind: Kind) -> u8
     })
 }
 
-// A link of the first name to the second; equal says whether they are one.
-pub fn judge_link(k: Looked, level: u8, equal: bool) -> u8
+// A link of the first name to the second.
+pub fn judge_link(k: Looked, level: u8) -> u8
     requires { ⌜ k .links .count ≤ maxSystems ⌝ }
-    ensures { λ r. ⌜ ((m : Memory) (x y : List ℕ) → Sees m x y k → equal ≡ same x y → NumberOf level (memoryOf m) (link x y) r) ⌝ }
+    ensures { λ r. ⌜ ((m : Memory) (x y : List ℕ) → Sees m x y k → NumberOf level (memoryOf m) (link x y) r) ⌝ }
 {
     let a = k.first;
     let b = k.second;
     let group_a = a.group;
     let links = k.links;
     let e = k.enabled;
-    let ties = ties_of(links, e, a.place, equal, b.place);
+    let ties = ties_of(links, e, a.place, b.place);
     first_number(Rungs {
         absent: a.absent | b.absent,
         reserved: a.reserved,
@@ -63,10 +62,10 @@ pub fn judge_link(k: Looked, level: u8, equal: bool) -> u8
     })
 }
 
-// A copy of the first name to the second; equal says whether they are one.
-pub fn judge_copy(k: Looked, level: u8, equal: bool) -> u8
+// A copy of the first name to the second.
+pub fn judge_copy(k: Looked, level: u8) -> u8
     requires { ⌜ k .links .count ≤ maxSystems ⌝ }
-    ensures { λ r. ⌜ ((m : Memory) (x y : List ℕ) → Sees m x y k → equal ≡ same y x → NumberOf level (memoryOf m) (copy x y) r) ⌝ }
+    ensures { λ r. ⌜ ((m : Memory) (x y : List ℕ) → Sees m x y k → NumberOf level (memoryOf m) (copy x y) r) ⌝ }
 {
     let s = k.first;
     let d = k.second;
@@ -74,7 +73,7 @@ pub fn judge_copy(k: Looked, level: u8, equal: bool) -> u8
     let kind = s.kind;
     let links = k.links;
     let e = k.enabled;
-    let over = ties_of(links, e, d.place, equal, s.place);
+    let over = ties_of(links, e, d.place, s.place);
     first_number(Rungs {
         absent: s.absent,
         reserved: s.reserved | d.reserved,

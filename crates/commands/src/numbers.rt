@@ -1,25 +1,18 @@
-// The numbers with which a change can be refused, in this one place, and the first that applies.
+// One ladder for every change of the systems: which numbers apply, and the first of them.
+use facts::numbers::ABSENT;
+use facts::numbers::ACCEPTED;
+use facts::numbers::FULL;
+use facts::numbers::IN_USE;
+use facts::numbers::LOCKED;
+use facts::numbers::OTHER_TYPE;
+use facts::numbers::RESERVED;
+use facts::numbers::RING;
 ghost use mathlib.Core.Path.{_≡_};
-ghost use Rattle.model.specs.Refusals.{first};
+ghost use mathlib.Core.List.{List, _∷_};
+ghost use Rattle.model.specs.Refusals.{Rung, first};
 ghost use Rattle.commands.specs.Rungs.{rungsOf};
 
-const ACCEPTED: u8 = 0;
-
-pub const ABSENT: u8 = 7;
-
-const RESERVED: u8 = 8;
-
-pub const LOCKED: u8 = 9;
-
-const OTHER_TYPE: u8 = 10;
-
-const IN_USE: u8 = 11;
-
-const RING: u8 = 12;
-
-const FULL: u8 = 13;
-
-// Which conditions hold. A number that a change does not know has a condition that is false.
+// Which conditions hold, in the order of their numbers. A number that a change does not know has a condition that is false.
 pub struct Rungs {
     pub absent: bool,
     pub reserved: bool,
@@ -30,29 +23,38 @@ pub struct Rungs {
     pub full: bool,
 }
 
+// The number where it applies, else the first of the later ones that does.
+fn rung(number: u8, applies: bool, later: u8) -> u8
+    ensures { λ n. ⌜ ((rs : List Rung) → later ≡ first rs → n ≡ first ((number, applies) ∷ rs)) ⌝ }
+{
+    if applies {
+        return number;
+    }
+    later
+}
+
 pub fn first_number(r: Rungs) -> u8
     ensures { λ n. ⌜ n ≡ first (rungsOf r) ⌝ }
 {
-    if r.absent {
-        return ABSENT;
-    }
-    if r.reserved {
-        return RESERVED;
-    }
-    if r.locked {
-        return LOCKED;
-    }
-    if r.other {
-        return OTHER_TYPE;
-    }
-    if r.used {
-        return IN_USE;
-    }
-    if r.ring {
-        return RING;
-    }
-    if r.full {
-        return FULL;
-    }
-    ACCEPTED
+    rung(
+        ABSENT,
+        r.absent,
+        rung(
+            RESERVED,
+            r.reserved,
+            rung(
+                LOCKED,
+                r.locked,
+                rung(
+                    OTHER_TYPE,
+                    r.other,
+                    rung(
+                        IN_USE,
+                        r.used,
+                        rung(RING, r.ring, rung(FULL, r.full, ACCEPTED)),
+                    ),
+                ),
+            ),
+        ),
+    )
 }

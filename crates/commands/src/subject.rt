@@ -1,9 +1,9 @@
 // What the ladder asks of the names and the links, from one look at the memory: later tests look at no memory.
 use chains::links::Links;
+use facts::kinds::group_of;
 use memory::find::Found;
 use memory::find::found_at;
 use memory::find::places_named;
-use memory::kinds::group_of;
 use memory::names::reserved_name;
 use model::Enabled;
 use model::Group;

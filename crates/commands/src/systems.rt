@@ -13,7 +13,6 @@ use memory::edit::fresh_system;
 use memory::edit::relinked;
 use memory::edit::renamed;
 use memory::enable::enabling;
-use memory::names::same_name;
 use model::Kind;
 use model::Name;
 use model::State;
@@ -55,13 +54,12 @@ pub fn define(k: Looked, level: u8, kind: Kind, n: Name, offset: Vec3, turns: Tu
     putting(x.place, made)
 }
 
-// KLN: b becomes the predecessor of a.
-pub fn link(k: Looked, level: u8, a: Name, b: Name) -> Decision
+// KLN: the second name becomes the predecessor of the first.
+pub fn link(k: Looked, level: u8) -> Decision
     requires { ⌜ k .links .count ≤ maxSystems ⌝ }
-    ensures { λ r. ⌜ ((s : State) → s .level ≡ level → Sees (s .volatile) (bytesOf a) (bytesOf b) k → Decides s (link (bytesOf a) (bytesOf b)) r) ⌝ }
+    ensures { λ r. ⌜ ((s : State) (x y : List ℕ) → s .level ≡ level → Sees (s .volatile) x y k → Decides s (link x y) r) ⌝ }
 {
-    let equal = same_name(a, b);
-    let number = judge_link(k, level, equal);
+    let number = judge_link(k, level);
     if number != 0 {
         return refused(number);
     }
@@ -72,13 +70,12 @@ pub fn link(k: Looked, level: u8, a: Name, b: Name) -> Decision
     putting(x.place, made)
 }
 
-// KCP: to gets all that from has but its name.
-pub fn copy(k: Looked, level: u8, from: Name, to: Name) -> Decision
+// KCP: the second name, which is given, gets all that the first has.
+pub fn copy(k: Looked, level: u8, to: Name) -> Decision
     requires { ⌜ (k .links .count ≤ maxSystems) × (to .len ≤ nameLimit) ⌝ }
-    ensures { λ r. ⌜ ((s : State) → s .level ≡ level → Sees (s .volatile) (bytesOf from) (bytesOf to) k → Decides s (copy (bytesOf from) (bytesOf to)) r) ⌝ }
+    ensures { λ r. ⌜ ((s : State) (x : List ℕ) → s .level ≡ level → Sees (s .volatile) x (bytesOf to) k → Decides s (copy x (bytesOf to)) r) ⌝ }
 {
-    let equal = same_name(to, from);
-    let number = judge_copy(k, level, equal);
+    let number = judge_copy(k, level);
     if number != 0 {
         return refused(number);
     }

@@ -3,7 +3,7 @@ use crate::changed::Decision;
 use crate::changed::Deed;
 use crate::changed::accepted;
 use crate::changed::refused;
-use crate::numbers::LOCKED;
+use facts::numbers::LOCKED;
 use model::State;
 ghost use mathlib.Core.Path.{_≡_};
 ghost use Rattle.model.specs.Request.{setLevel, save, restore, reset};

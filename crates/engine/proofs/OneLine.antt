@@ -15,25 +15,26 @@ use Rattle.model.specs.Request.{asks, list, resultantOf}
 use Rattle.model.specs.Refusals.{first, readingLadder, requestLadder, queryLadder}
 use Rattle.model.specs.Effects.{withError, next}
 use Rattle.model.specs.Reply.{listed, listing, resultantLine, reply}
-use Rattle.model.specs.Machine.{carriedOut, answered, refused}
+use Rattle.model.specs.Machine.{carriedOut, judged, answered, refused}
 use Rattle.model.specs.Stored.{systemOf, systemsOf, memoryOf, stateOf}
 use Rattle.model.proofs.Memories.Named.{place-within, named-place}
 use Rattle.reply.specs.Reached.{refAt}
 use Rattle.memory.specs.declared.find.Found.the-variants.{User, Fixed, Absent}
-use Rattle.memory.specs.Found.{foundRef}
+use Rattle.memory.specs.Found.{foundTold}
 use Rattle.commands.specs.declared.subject.Subject.{Subject}
 use Rattle.commands.specs.Subject.{Tells}
-use Rattle.engine.specs.Fine.{oneLine}
-use Rattle.engine.specs.Obeyed.{decided, obeyed}
+use Rattle.commands.specs.Obeyed.{obeyed}
+use Rattle.commands.proofs.Asked.{place-is, found-is}
+use Rattle.engine.specs.Answers.{oneLine}
 
 module _ (st : State) (a b : List ℕ) where
   obeyed-absent : find (st .volatile) a ≡ none → obeyed st (asks (list (resultantOf a))) b ≡ refused (withError st 7) 7 b
-  unfolding obeyed decided first readingLadder requestLadder queryLadder there?
+  unfolding obeyed judged first readingLadder requestLadder queryLadder there?
   obeyed-absent e = rw e
 
   obeyed-found : (r : Ref) → find (st .volatile) a ≡ some r →
       obeyed st (asks (list (resultantOf a))) b ≡ answered st (listing (resultantLine (st .volatile .systems) r ∷ [])) b
-  unfolding obeyed decided first readingLadder requestLadder queryLadder there? carriedOut next reply listed refOr
+  unfolding obeyed judged first readingLadder requestLadder queryLadder there? carriedOut next reply listed refOr
   obeyed-found r e = rw e (ap (λ (q : Ref). answered st (listing (resultantLine (st .volatile .systems) q ∷ [])) b) (ap refOr e))
 
 -- a user system's line is found by its place
@@ -45,27 +46,27 @@ ref-by-place l (suc k) = refl
 -- a place by name is one of the stored ones
 pub named-within : (m : StoredMemory) (n : List ℕ) (x : Subject) → Tells (memoryOf m) n x → x .place ≤ m .count
 named-within m n x tells =
-    omega (arith, tells .place-is, place-within (systemsOf m) n, length-map (take (m .count) (m .systems)) systemOf, length-take (m .count) (m .systems))
+    omega (arith, place-is (memoryOf m) n x tells, place-within (systemsOf m) n, length-map (take (m .count) (m .systems)) systemOf, length-take (m .count) (m .systems))
 
 -- ---- what was looked up, answered
 
 module _ (s : StoredState) (a : List ℕ) (x : Subject) (tells : Tells (memoryOf (s .volatile)) a x) (b : List ℕ) where
   -- a user system is at the name's place
   user-found : (k : ℕ) → x .found ≡ User k → find (memoryOf (s .volatile)) a ≡ some (userRef (systemsOf (s .volatile)) (x .place))
-  unfolding foundRef refOr
+  unfolding foundTold refOr
   user-found k e =
       let l = systemsOf (s .volatile) in
-      let f : find (memoryOf (s .volatile)) a ≡ some (userRef l k) = sym (tells .found-is) ∙ rw e refl in
-      let at : k ≡ x .place = sym (ap (λ (q : Option Ref). refOr q .place) f) ∙ named-place (memoryOf (s .volatile)) a ∙ sym (tells .place-is) in
+      let f : find (memoryOf (s .volatile)) a ≡ some (userRef l k) = sym (found-is (memoryOf (s .volatile)) a x tells) ∙ rw e refl in
+      let at : k ≡ x .place = sym (ap (λ (q : Option Ref). refOr q .place) f) ∙ named-place (memoryOf (s .volatile)) a ∙ sym (place-is (memoryOf (s .volatile)) a x tells) in
       f ∙ ap (λ (j : ℕ). some (userRef l j)) at
 
   fixed-found : (g : Group) → x .found ≡ Fixed g → find (memoryOf (s .volatile)) a ≡ some (fixedRef g)
-  unfolding foundRef
-  fixed-found g e = sym (tells .found-is) ∙ rw e refl
+  unfolding foundTold
+  fixed-found g e = sym (found-is (memoryOf (s .volatile)) a x tells) ∙ rw e refl
 
   none-found : x .found ≡ Absent → find (memoryOf (s .volatile)) a ≡ none
-  unfolding foundRef
-  none-found e = sym (tells .found-is) ∙ rw e refl
+  unfolding foundTold
+  none-found e = sym (found-is (memoryOf (s .volatile)) a x tells) ∙ rw e refl
 
   pub user-answers : (k : ℕ) → x .found ≡ User k →
       obeyed (stateOf s) (asks (list (resultantOf a))) b ≡ answered (stateOf s) (oneLine (s .volatile) Operating (x .place)) b

@@ -1,33 +1,34 @@
 -- From what a call decided or a reply's writer left to the step that a line takes.
-use Prim.Native.Nat.{ℕ, _≤_}
+use Prim.Native.Nat.{ℕ}
 use mathlib.Core.Path.{_≡_, refl, sym, ap, _∙_}
 use mathlib.Core.List.{List}
 use mathlib.Core.Bool.{true}
-use lib.ListN.{length}
 use Rattle.model.specs.declared.Memory.{Memory as StoredMemory}
 use Rattle.model.specs.declared.State.{State as StoredState}
-use Rattle.model.specs.Limits.{bufferLimit}
 use Rattle.model.specs.Effects.{withError}
 use Rattle.model.specs.Memory.{State}
 use Rattle.model.specs.Machine.{Outcome, answered, refused}
-use Rattle.model.specs.Request.{Change, asks, change}
-use Rattle.model.specs.Stored.{nameShaped, shaped, systemOf, stateOf, ofOutcome}
-use Rattle.reply.specs.Lines.{Ready, Replied}
+use Rattle.model.specs.Request.{Change, Query, asks, change, list}
+use Rattle.model.specs.Refusals.{first, queryLadder}
+use Rattle.model.specs.Reply.{listed}
+use Rattle.model.specs.Stored.{nameShaped, shaped, systemOf, memoryOf, stateOf, ofOutcome}
+use Rattle.reply.specs.Lines.{Replied}
 use Rattle.commands.specs.declared.changed.Decision.{Decision}
 use Rattle.commands.specs.declared.changed.Deed.{Deed}
 use Rattle.commands.specs.declared.changed.Deed.the-variants.{Keep, SetError}
-use Rattle.commands.specs.Given.{Given}
+use Rattle.commands.specs.declared.subject.Looked.{Looked}
+use Rattle.commands.specs.Obeyed.{obeyed}
+use Rattle.commands.specs.Subject.{Sees}
 use Rattle.commands.specs.Done.{done, Fits, Decides}
 use Rattle.engine.specs.declared.answer.Step.{Step}
-use Rattle.engine.specs.Fine.{FineMemory, answeredOf, ofGiven}
-use Rattle.engine.specs.Obeyed.{obeyed}
+use Rattle.engine.specs.Answers.{answeredOf}
 use Rattle.engine.specs.Taken.{Takes}
-use Rattle.engine.proofs.Steps.{obeyed-change}
+use Rattle.engine.proofs.Steps.{obeyed-listed}
 use Rattle.engine.proofs.Views.{answer-holds}
 
--- a fine memory can be listed
-pub ready : (m : StoredMemory) (b : List ℕ) → FineMemory m → bufferLimit ≤ length b → Ready m b
-ready m b f h = record { shaped = f .shape; fine = f .formed; room = h }
+-- what was seen of a memory is so of any that is the same
+pub seen-in : {v m : StoredMemory} {x y : List ℕ} {k : Looked} → v ≡ m → Sees m x y k → Sees v x y k
+seen-in e t = rw e t
 
 -- an accepted or refused decision that puts no system
 abbrev pub Says : Decision → ℕ → Deed → Type 0
@@ -52,9 +53,7 @@ module _ (s : StoredState) (d : Decision) (r : Step) (silent : r ≡ record { de
 
   -- a decided change is a step taken
   pub change-taken : (c : Change) → Decides s c d → Takes s (obeyed (stateOf s) (asks (change c)) b) r b
-  change-taken c p =
-      rw silent
-      (record { outcome = ap (λ (g : Given). ofGiven g b) (p .given-is) ∙ sym (obeyed-change (stateOf s) c b); doable = p .doable })
+  change-taken c p = rw silent (record { outcome = p .outcome b; doable = p .doable })
 
 -- a reply that was written is a step taken
 module _ (s : StoredState) (r : Step) (k : ℕ) (text b c : List ℕ) (o : Outcome) (count : r .length ≡ k) (written : Replied text b c k) where
@@ -70,6 +69,18 @@ module _ (s : StoredState) (r : Step) (k : ℕ) (text b c : List ℕ) (o : Outco
   pub cleared-taken : o ≡ answered (withError (stateOf s) 0) text b → Says (r .decision) 0 (SetError 0) → Takes s o r c
   unfolding done Fits
   cleared-taken is p = retold (is ∙ replies (withError (stateOf s) 0)) (by-deed s r c 0 (SetError 0) p tt)
+
+-- a listing of the volatile memory m
+pub list-taken : (s : StoredState) (m : StoredMemory) → s .volatile ≡ m → (q : Query) → first (queryLadder (memoryOf m) q) ≡ 0 →
+    (r : Step) (k : ℕ) (b c : List ℕ) → Replied (listed (memoryOf m) q) b c k →
+    (r .decision .number ≡ 0) × (r .decision .deed ≡ Keep) × (nameShaped (r .decision .system) ≡ true) × (r .length ≡ k) →
+    Takes s (obeyed (stateOf s) (asks (list q)) b) r c
+list-taken s m e q z r k b c p w =
+    let st = stateOf s in
+    let n : first (queryLadder (st .volatile) q) ≡ 0 = ap (λ (v : StoredMemory). first (queryLadder (memoryOf v) q)) e ∙ z in
+    reply-taken s r k (listed (memoryOf m) q) b c (obeyed st (asks (list q)) b) (w .3) p
+    (obeyed-listed st b q n ∙ ap (λ (v : StoredMemory). answered st (listed (memoryOf v) q) b) e)
+    (w .0, w .1, w .2)
 
 -- a step taken, carried out on the whole state: an answer
 pub taken-answers : {s : StoredState} {o : Outcome} {r : Step} {b : List ℕ} (t : StoredState) →

@@ -6,13 +6,14 @@ use mathlib.Core.Bool.{true, false, _&&_}
 use mathlib.Core.Logic.{⊎-elim}
 use Rattle.model.specs.declared.State.{State as StoredState}
 use Rattle.model.specs.WellFormed.{wellFormed}
-use Rattle.model.specs.Stored.{holds, shapeless, ofOutcome, ofBegun, memoryShaped, shaped, stateOf, viewOf, lineAnswer, imageAnswer, restartAnswer}
-use Rattle.model.proofs.Basics.{and-join, and-split, either}
+use Rattle.model.specs.Stored.{FineState, FineMemory, holds, shapeless, ofOutcome, ofBegun, shaped, stateOf, viewOf, lineAnswer, imageAnswer, restartAnswer}
+use Rattle.model.proofs.Basics.{and-split, either}
 use Rattle.model.proofs.Memories.Fine.{state-of}
 use Rattle.model.proofs.Ladder.Refusing.{step-ill}
+use Rattle.memory.proofs.Shape.{shape-parts}
 use Rattle.model.proofs.Ladder.Exact.{other-numbers-exact}
 use Rattle.engine.specs.declared.answer.Stepped.{Stepped}
-use Rattle.engine.specs.Fine.{Fine, FineMemory, answeredOf}
+use Rattle.engine.specs.Answers.{answeredOf}
 
 pub view-holds : (s : StoredState) → shaped s ≡ true → viewOf s ≡ holds (stateOf s)
 unfolding viewOf
@@ -22,19 +23,11 @@ pub view-shapeless : (s : StoredState) → shaped s ≡ false → viewOf s ≡ s
 unfolding viewOf
 view-shapeless s e = rw (e, viewOf)
 
-pub shape-both : (s : StoredState) → memoryShaped (s .volatile) ≡ true → memoryShaped (s .permanent) ≡ true → shaped s ≡ true
-unfolding shaped
-shape-both s v p = and-join v p
-
-pub shape-parts : (s : StoredState) → shaped s ≡ true → (memoryShaped (s .volatile) ≡ true) × (memoryShaped (s .permanent) ≡ true)
-unfolding shaped
-shape-parts s e = and-split (memoryShaped (s .volatile)) (memoryShaped (s .permanent)) e
-
-pub fine-of : (s : StoredState) → shaped s && wellFormed (stateOf s) ≡ true → Fine s
+pub fine-of : (s : StoredState) → shaped s && wellFormed (stateOf s) ≡ true → FineState s
 fine-of s e = let p = and-split (shaped s) (wellFormed (stateOf s)) e in record { shape = p .0; formed = p .1 }
 
 -- the volatile memory of such a state
-pub fine-volatile : (s : StoredState) → Fine s → FineMemory (s .volatile)
+pub fine-volatile : (s : StoredState) → FineState s → FineMemory (s .volatile)
 fine-volatile s f = record { shape = shape-parts s (f .shape) .0; formed = state-of (stateOf s) (f .formed) .volatile }
 
 -- ---- a state that is not well formed: with 1, and all as it was

@@ -1,3 +1,2 @@
-pub mod Obeyed
-pub mod Fine
+pub mod Answers
 pub mod Taken

@@ -5,14 +5,13 @@ use mathlib.Core.List.{List}
 use Rattle.model.specs.declared.State.{State as StoredState}
 use Rattle.model.specs.Memory.{State}
 use Rattle.model.specs.Machine.{Outcome}
-use Rattle.model.specs.Stored.{systemOf, stateOf}
-use Rattle.commands.specs.Done.{done, Doable}
+use Rattle.model.specs.Stored.{stateOf}
+use Rattle.commands.specs.Done.{outcomeOf, Doable}
 use Rattle.engine.specs.declared.answer.Step.{Step}
 
 -- the outcome, with the lent buffer that the step left
 abbrev pub takenOf : State → Step → List ℕ → Outcome
-takenOf st r b =
-    record { state = done (r .decision .deed) (systemOf (r .decision .system)) st; number = r .decision .number; count = r .length; buffer = b }
+takenOf st r b = outcomeOf (r .decision) st (r .length) b
 
 -- the step is this outcome's in the stored state s
 pub record Takes (s : StoredState) (o : Outcome) (r : Step) (b : List ℕ) : Type 0 where

@@ -21,6 +21,12 @@ use commands::whole::reset;
 use commands::whole::restore;
 use commands::whole::save;
 use commands::whole::set_level;
+use facts::limits::BUFFER_LIMIT;
+use facts::numbers::BEYOND;
+use facts::numbers::MALFORMED;
+use facts::numbers::SHORT;
+use facts::numbers::UNKNOWN;
+use facts::numbers::UNREADABLE;
 use model::Memory;
 use model::Name;
 use model::State;
@@ -29,35 +35,21 @@ use request::Request;
 ghost use mathlib.Core.Path.{_≡_};
 ghost use Prim.Native.Nat.{_≤_};
 ghost use lib.ListN.{length};
-ghost use Rattle.model.specs.Limits.{bufferLimit};
+ghost use Rattle.model.specs.Limits.{nameLimit, bufferLimit};
 ghost use Rattle.model.specs.Machine.{stepped};
-ghost use Rattle.model.specs.Stored.{bytesOf, memoryOf, ofOutcome, stateOf};
+ghost use Rattle.model.specs.Stored.{FineMemory, FineState, bytesOf, memoryOf, ofOutcome, stateOf};
 ghost use Rattle.request.specs.Asked.{readingOf};
+ghost use Rattle.commands.specs.Obeyed.{obeyed};
 ghost use Rattle.commands.specs.Subject.{Tells};
-ghost use Rattle.engine.specs.Fine.{Fine, FineMemory, Named, stateWith, answeredOf};
+ghost use Rattle.engine.specs.Answers.{answeredOf};
 ghost use Rattle.engine.specs.Taken.{Takes};
-ghost use Rattle.engine.specs.Obeyed.{obeyed};
-
-// The numbers of a line that is judged before anything is asked.
-const SHORT: u8 = 2;
-
-const UNREADABLE: u8 = 3;
-
-const UNKNOWN: u8 = 4;
-
-const MALFORMED: u8 = 5;
-
-const BEYOND: u8 = 6;
-
-// The least lent buffer.
-pub const ROOM: usize = 4096;
 
 // What was read is judged: what it does, or the number with which it is refused.
 fn carry_out(m: Memory, level: u8, error: u8, q: Request, reply: &mut [u8]) -> Step
     requires { ⌜ FineMemory m ⌝ }
-    requires { ⌜ Named q ⌝ }
+    requires { ⌜ (q .first .len ≤ nameLimit) × (q .second .len ≤ nameLimit) ⌝ }
     requires { ⌜ bufferLimit ≤ length (now reply) ⌝ }
-    ensures { λ r. ⌜ ((p : Memory) → Takes (stateWith m p level error) (obeyed (stateOf (stateWith m p level error)) (readingOf q) (now (reply .entry))) r (now (reply .exit))) ⌝ }
+    ensures { λ r. ⌜ ((s : State) → s .volatile ≡ m → s .level ≡ level → s .error ≡ error → Takes s (obeyed (stateOf s) (readingOf q) (now (reply .entry))) r (now (reply .exit))) ⌝ }
 {
     let asked = q.asked;
     let a = q.first;
@@ -67,8 +59,8 @@ fn carry_out(m: Memory, level: u8, error: u8, q: Request, reply: &mut [u8]) -> S
         Asked::Malformed => silent(refused(MALFORMED)),
         Asked::Beyond => silent(refused(BEYOND)),
         Asked::Define(kind) => silent(define(look(m, a, b), level, kind, a, q.offset, q.turns)),
-        Asked::Link => silent(link(look(m, a, b), level, a, b)),
-        Asked::Copy => silent(copy(look(m, a, b), level, a, b)),
+        Asked::Link => silent(link(look(m, a, b), level)),
+        Asked::Copy => silent(copy(look(m, a, b), level, b)),
         Asked::Remove => silent(remove(look(m, a, b), level)),
         Asked::Enable => silent(enable(look(m, a, b), level)),
         Asked::SetLevel(n) => silent(set_level(n)),
@@ -93,12 +85,12 @@ fn subject_of(m: Memory, a: Name, b: Name) -> Subject
     k.first
 }
 
-// What a line does, in a well-formed state of this volatile memory, level and last error.
+// What a line does, in any well-formed state of this volatile memory, level and last error.
 pub fn decide(m: Memory, level: u8, error: u8, line: &[u8], reply: &mut [u8]) -> Step
     requires { ⌜ FineMemory m ⌝ }
-    ensures { λ r. ⌜ ((p : Memory) → Fine (stateWith m p level error) → Takes (stateWith m p level error) (stepped (stateOf (stateWith m p level error)) (now (line .entry)) (now (reply .entry))) r (now (reply .exit))) ⌝ }
+    ensures { λ r. ⌜ ((s : State) → s .volatile ≡ m → s .level ≡ level → s .error ≡ error → FineState s → Takes s (stepped (stateOf s) (now (line .entry)) (now (reply .entry))) r (now (reply .exit))) ⌝ }
 {
-    if reply.len() < ROOM {
+    if reply.len() < BUFFER_LIMIT {
         return silent(refused(SHORT));
     }
     if request::printable::unreadable(line) {
@@ -110,7 +102,7 @@ pub fn decide(m: Memory, level: u8, error: u8, line: &[u8], reply: &mut [u8]) ->
 
 // A line in a well-formed state.
 pub fn obey(s: State, line: &[u8], reply: &mut [u8]) -> Stepped
-    requires { ⌜ Fine s ⌝ }
+    requires { ⌜ FineState s ⌝ }
     ensures { λ r. ⌜ answeredOf r (now (reply .exit)) ≡ ofOutcome (stepped (stateOf s) (now (line .entry)) (now (reply .entry))) ⌝ }
 {
     let m = s.volatile;

@@ -5,28 +5,30 @@ use crate::answer::silent;
 use commands::changed::Deed;
 use commands::changed::accepted;
 use commands::changed::refused;
-use commands::numbers::ABSENT;
 use commands::subject::Subject;
+use facts::numbers::ABSENT;
 use memory::find::Found;
 use model::Group;
 use model::Memory;
+use model::State;
+ghost use mathlib.Core.Path.{_≡_};
 ghost use mathlib.Core.List.{List};
 ghost use Prim.Native.Nat.{ℕ, _≤_};
 ghost use lib.ListN.{length};
 ghost use Rattle.model.specs.Limits.{bufferLimit};
 ghost use Rattle.model.specs.Request.{asks, list, lastError, enabledOnes, systemsAll, links, resultants, resultantOf};
-ghost use Rattle.model.specs.Stored.{memoryOf, stateOf};
+ghost use Rattle.model.specs.Stored.{FineMemory, memoryOf, stateOf};
 ghost use Rattle.model.specs.Machine.{answered};
+ghost use Rattle.commands.specs.Obeyed.{obeyed};
 ghost use Rattle.commands.specs.Subject.{Tells};
-ghost use Rattle.engine.specs.Fine.{FineMemory, stateWith, oneLine};
+ghost use Rattle.engine.specs.Answers.{oneLine};
 ghost use Rattle.engine.specs.Taken.{Takes};
-ghost use Rattle.engine.specs.Obeyed.{obeyed};
 
 // KEN?
 pub fn enabled_line(m: Memory, reply: &mut [u8]) -> Step
     requires { ⌜ FineMemory m ⌝ }
     requires { ⌜ bufferLimit ≤ length (now reply) ⌝ }
-    ensures { λ r. ⌜ ((p : Memory) (level error : ℕ) → Takes (stateWith m p level error) (obeyed (stateOf (stateWith m p level error)) (asks (list enabledOnes)) (now (reply .entry))) r (now (reply .exit))) ⌝ }
+    ensures { λ r. ⌜ ((s : State) → s .volatile ≡ m → Takes s (obeyed (stateOf s) (asks (list enabledOnes)) (now (reply .entry))) r (now (reply .exit))) ⌝ }
 {
     let n = reply::enabled::enabled(m, reply);
     replied(n)
@@ -36,7 +38,7 @@ pub fn enabled_line(m: Memory, reply: &mut [u8]) -> Step
 pub fn systems_line(m: Memory, reply: &mut [u8]) -> Step
     requires { ⌜ FineMemory m ⌝ }
     requires { ⌜ bufferLimit ≤ length (now reply) ⌝ }
-    ensures { λ r. ⌜ ((p : Memory) (level error : ℕ) → Takes (stateWith m p level error) (obeyed (stateOf (stateWith m p level error)) (asks (list systemsAll)) (now (reply .entry))) r (now (reply .exit))) ⌝ }
+    ensures { λ r. ⌜ ((s : State) → s .volatile ≡ m → Takes s (obeyed (stateOf s) (asks (list systemsAll)) (now (reply .entry))) r (now (reply .exit))) ⌝ }
 {
     let n = reply::systems(m, reply);
     replied(n)
@@ -46,7 +48,7 @@ pub fn systems_line(m: Memory, reply: &mut [u8]) -> Step
 pub fn links_line(m: Memory, reply: &mut [u8]) -> Step
     requires { ⌜ FineMemory m ⌝ }
     requires { ⌜ bufferLimit ≤ length (now reply) ⌝ }
-    ensures { λ r. ⌜ ((p : Memory) (level error : ℕ) → Takes (stateWith m p level error) (obeyed (stateOf (stateWith m p level error)) (asks (list links)) (now (reply .entry))) r (now (reply .exit))) ⌝ }
+    ensures { λ r. ⌜ ((s : State) → s .volatile ≡ m → Takes s (obeyed (stateOf s) (asks (list links)) (now (reply .entry))) r (now (reply .exit))) ⌝ }
 {
     let n = reply::links(m, reply);
     replied(n)
@@ -56,7 +58,7 @@ pub fn links_line(m: Memory, reply: &mut [u8]) -> Step
 pub fn resultants_line(m: Memory, reply: &mut [u8]) -> Step
     requires { ⌜ FineMemory m ⌝ }
     requires { ⌜ bufferLimit ≤ length (now reply) ⌝ }
-    ensures { λ r. ⌜ ((p : Memory) (level error : ℕ) → Takes (stateWith m p level error) (obeyed (stateOf (stateWith m p level error)) (asks (list resultants)) (now (reply .entry))) r (now (reply .exit))) ⌝ }
+    ensures { λ r. ⌜ ((s : State) → s .volatile ≡ m → Takes s (obeyed (stateOf s) (asks (list resultants)) (now (reply .entry))) r (now (reply .exit))) ⌝ }
 {
     let n = reply::resultants::resultants(m, reply);
     replied(n)
@@ -67,7 +69,7 @@ fn one_line(m: Memory, group: Group, place: u8, reply: &mut [u8]) -> Step
     requires { ⌜ FineMemory m ⌝ }
     requires { ⌜ bufferLimit ≤ length (now reply) ⌝ }
     requires { ⌜ place ≤ m .count ⌝ }
-    ensures { λ r. ⌜ ((p : Memory) (level error : ℕ) → Takes (stateWith m p level error) (answered (stateOf (stateWith m p level error)) (oneLine m group place) (now (reply .entry))) r (now (reply .exit))) ⌝ }
+    ensures { λ r. ⌜ ((s : State) → Takes s (answered (stateOf s) (oneLine m group place) (now (reply .entry))) r (now (reply .exit))) ⌝ }
 {
     let n = reply::resultants::resultant_at(m, group, place, reply);
     replied(n)
@@ -78,7 +80,7 @@ pub fn resultant_line(m: Memory, x: Subject, reply: &mut [u8]) -> Step
     requires { ⌜ FineMemory m ⌝ }
     requires { ⌜ bufferLimit ≤ length (now reply) ⌝ }
     requires { ⌜ x .place ≤ m .count ⌝ }
-    ensures { λ r. ⌜ ((n : List ℕ) (p : Memory) (level error : ℕ) → Tells (memoryOf m) n x → Takes (stateWith m p level error) (obeyed (stateOf (stateWith m p level error)) (asks (list (resultantOf n))) (now (reply .entry))) r (now (reply .exit))) ⌝ }
+    ensures { λ r. ⌜ ((s : State) (n : List ℕ) → s .volatile ≡ m → Tells (memoryOf m) n x → Takes s (obeyed (stateOf s) (asks (list (resultantOf n))) (now (reply .entry))) r (now (reply .exit))) ⌝ }
 {
     let found = x.found;
     match found {
@@ -91,7 +93,7 @@ pub fn resultant_line(m: Memory, x: Subject, reply: &mut [u8]) -> Step
 // ERR?: the last error, which is then 0.
 pub fn error_line(error: u8, reply: &mut [u8]) -> Step
     requires { ⌜ bufferLimit ≤ length (now reply) ⌝ }
-    ensures { λ r. ⌜ ((v p : Memory) (level : ℕ) → Takes (stateWith v p level error) (obeyed (stateOf (stateWith v p level error)) (asks lastError) (now (reply .entry))) r (now (reply .exit))) ⌝ }
+    ensures { λ r. ⌜ ((s : State) → s .error ≡ error → Takes s (obeyed (stateOf s) (asks lastError) (now (reply .entry))) r (now (reply .exit))) ⌝ }
 {
     let length = reply::last_error(error, reply);
     let decision = accepted(Deed::SetError(0));

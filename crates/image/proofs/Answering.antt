@@ -1,4 +1,4 @@
--- What is answered to the bytes of an image, by what the strict reading gave.
+-- What is answered to the bytes of an image, by what was read.
 use Prim.Native.Nat.{ℕ, _≤_, _<_}
 use mathlib.Core.Path.{_≡_, sym, _∙_}
 use mathlib.Core.List.{List}
@@ -10,32 +10,31 @@ use Rattle.model.specs.Lists.{none?}
 use Rattle.model.specs.Memory.{Memory}
 use Rattle.model.specs.WellFormed.{memoryFine}
 use Rattle.model.specs.Stored.{memoryOf, memoryShaped}
+use Rattle.model.specs.Image.{readMemory, whollyRead, accepted}
 use Rattle.model.proofs.Basics.{true-false}
 use Rattle.image.specs.declared.ImageRead.{ImageRead}
-use Rattle.image.specs.Strict.{strictMemory, ended, strict}
 use Rattle.image.specs.Accepted.{Answers, Refuses}
-use Rattle.image.proofs.Exact.{exact}
 
-pub refuses : (bs : List ℕ) (r : ImageRead) → Refuses r → strict bs ≡ none → Answers bs r
-refuses bs r f e = record { is = rw (f .not-ok) (sym e ∙ exact bs); factory-else = λ q. f .memory; shaped = f .shaped }
+pub refuses : (bs : List ℕ) (r : ImageRead) → Refuses r → accepted bs ≡ none → Answers bs r
+refuses bs r f e = record { is = rw (f .not-ok) (sym e); factory-else = λ q. f .memory; shaped = f .shaped }
 
-pub accepts : (bs : List ℕ) (r : ImageRead) → r .ok ≡ true → memoryShaped (r .memory) ≡ true → strict bs ≡ some (memoryOf (r .memory)) → Answers bs r
-accepts bs r k s e = record { is = rw k (sym e ∙ exact bs); factory-else = λ q. true-false (sym k ∙ q); shaped = s }
+pub accepts : (bs : List ℕ) (r : ImageRead) → r .ok ≡ true → memoryShaped (r .memory) ≡ true → accepted bs ≡ some (memoryOf (r .memory)) → Answers bs r
+accepts bs r k s e = record { is = rw k (sym e); factory-else = λ q. true-false (sym k ∙ q); shaped = s }
 
-pub unread : (bs : List ℕ) → none ≡ strictMemory bs → strict bs ≡ none
-unfolding ended
-unread bs e = rw (← e)
+pub unread : (bs : List ℕ) → readMemory bs ≡ none → accepted bs ≡ none
+unfolding accepted whollyRead
+unread bs e = rw e
 
-module _ (bs : List ℕ) (m : Memory) (next : ℕ) (e : some (m, drop next bs) ≡ strictMemory bs) where
-  pub bytes-left : next < length bs → strict bs ≡ none
-  unfolding ended none?
-  bytes-left h = rw (← e, drop-cons bs next 0 h)
+module _ (bs : List ℕ) (m : Memory) (next : ℕ) (e : readMemory bs ≡ some (m, drop next bs)) where
+  pub bytes-left : next < length bs → accepted bs ≡ none
+  unfolding accepted whollyRead none?
+  bytes-left h = rw (e, drop-cons bs next 0 h)
 
   module _ (h : length bs ≤ next) where
-    pub ill-formed : memoryFine m ≡ false → strict bs ≡ none
-    unfolding ended none?
-    ill-formed f = rw (← e, drop-of-length-le bs h, f)
+    pub ill-formed : memoryFine m ≡ false → accepted bs ≡ none
+    unfolding accepted whollyRead none?
+    ill-formed f = rw (e, drop-of-length-le bs h, f)
 
-    pub well-formed : memoryFine m ≡ true → strict bs ≡ some m
-    unfolding ended none?
-    well-formed f = rw (← e, drop-of-length-le bs h, f)
+    pub well-formed : memoryFine m ≡ true → accepted bs ≡ some m
+    unfolding accepted whollyRead none?
+    well-formed f = rw (e, drop-of-length-le bs h, f)

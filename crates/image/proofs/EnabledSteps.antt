@@ -1,4 +1,4 @@
--- What is enabled, read strictly by what its parts give, and its bytes by whether a pair is enabled.
+-- What is enabled, read by what its parts give, and its bytes by whether a pair is enabled.
 use Prim.Native.Nat.{ℕ, zero, suc, _+_, _≤_}
 use mathlib.Core.Path.{_≡_, ap, _∙_}
 use mathlib.Core.List.{List, [], _∷_, _++_, append-assoc, append-nil}
@@ -9,9 +9,8 @@ use lib.Seq.{getD-take}
 use Rattle.model.specs.declared.Enabled.{Enabled}
 use Rattle.model.specs.declared.OperatingPart.the-variants.{Single, Pair}
 use Rattle.model.specs.Lists.{joined}
-use Rattle.model.specs.Image.{give, whole, numbers, enabledBytes}
+use Rattle.model.specs.Image.{whole, numbers, enabledBytes, give, upTo, several, mostByte, enabledFrom, readEnabled}
 use Rattle.model.proofs.Image.Readers.{then, then-none}
-use Rattle.image.specs.Strict.{upTo, several, mostByte, enabledFrom, strictEnabled}
 
 -- ---- reading
 
@@ -24,17 +23,17 @@ enabled-stored (suc zero) v h =
 enabled-stored (suc (suc f)) v h = absurd (omega arith)
 
 module _ (bs : List ℕ) where
-  pub no-first : upTo 1 bs ≡ none → strictEnabled bs ≡ none
-  unfolding strictEnabled
+  pub no-first : upTo 1 bs ≡ none → readEnabled bs ≡ none
+  unfolding readEnabled
   no-first e = then-none (upTo 1) _ bs e
 
   module _ (f : ℕ) (after-f : List ℕ) (ef : upTo 1 bs ≡ some (f, after-f)) where
-    pub no-places : several (3 + f) mostByte after-f ≡ none → strictEnabled bs ≡ none
-    unfolding strictEnabled
+    pub no-places : several (3 + f) mostByte after-f ≡ none → readEnabled bs ≡ none
+    unfolding readEnabled
     no-places e = then (upTo 1) _ bs ef ∙ then-none (several (3 + f) mostByte) _ after-f e
 
-    pub places-read : (v rest : List ℕ) → f ≤ 1 → several (3 + f) mostByte after-f ≡ some (take (3 + f) v, rest) → strictEnabled bs ≡ some (enabledFrom f v, rest)
-    unfolding strictEnabled give
+    pub places-read : (v rest : List ℕ) → f ≤ 1 → several (3 + f) mostByte after-f ≡ some (take (3 + f) v, rest) → readEnabled bs ≡ some (enabledFrom f v, rest)
+    unfolding readEnabled give
     places-read v rest h e =
         then (upTo 1) _ bs ef ∙ then (several (3 + f) mostByte) _ after-f e ∙ ap (λ (n : Enabled). some (n, rest)) (enabled-stored f v h)
 

@@ -1,15 +1,11 @@
-pub mod Shortest
-pub mod Several
-pub mod Turns
-pub mod StrictSystem
-pub mod Exact
-pub mod Answering
-pub mod NumberLaws
-pub mod NameLaws
-pub mod SystemSteps
-pub mod EnabledSteps
-pub mod MemorySteps
-pub mod Puts
-pub mod SystemPuts
-pub mod MemoryPuts
-pub mod Signs
+pub mod Signs  -- signed numbers
+pub mod NumberLaws  -- a number at a place
+pub mod Turns  -- a reader that is repeated, in turns
+pub mod NameLaws  -- a name at a place
+pub mod SystemSteps  -- a system, part by part
+pub mod EnabledSteps  -- what is enabled, part by part
+pub mod MemorySteps  -- a memory, part by part
+pub mod Answering  -- what is answered to the bytes of an image
+pub mod Left  -- what is left to write
+pub mod SystemLeft  -- of a system
+pub mod MemoryLeft  -- of a memory

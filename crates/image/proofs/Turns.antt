@@ -4,9 +4,8 @@ use mathlib.Core.Path.{_≡_, refl, sym, ap, _∙_}
 use mathlib.Core.List.{List, [], _∷_, _++_, append-assoc, append-nil}
 use mathlib.Core.Option.{Option, none, some}
 use native.Mathlib.Omega.{arith}
-use Rattle.model.specs.Image.{Reader, _>>=_, give}
+use Rattle.model.specs.Image.{Reader, _>>=_, give, repeated}
 use Rattle.model.proofs.Image.Readers.{then, then-none}
-use Rattle.image.specs.Strict.{repeated}
 
 abbrev pub prefixed : {A : Type 0} → List A → Option (List A × List ℕ) → Option (List A × List ℕ)
 prefixed l none = none

@@ -1,45 +1,55 @@
--- What the answers of the readers in src/ stand for: a value and the bytes after it, or nothing.
-use Rattle.model.specs.Base.{ℕ, List, map, Option, none, some, cond, ltb, take, drop}
+-- What the answers of the readers in src/ say: a value and the bytes after it, or number 14.
+use Rattle.model.specs.Base.{ℕ, List, map, Bool, cond, ltb, take, drop}
+use Rattle.model.specs.declared.Enabled.{Enabled}
+use Rattle.model.specs.Told.{Told, tells, refuses}
+use Rattle.model.specs.Memory.{System, Memory}
+use Rattle.model.specs.Stored.{bytesOf, systemOf, memoryOf}
 use Rattle.image.specs.declared.numbers.Number.{Number}
 use Rattle.image.specs.declared.numbers.Number.the-variants.{Read, Refused}
-use Rattle.model.specs.Stored.{bytesOf, systemOf, memoryOf}
-use Rattle.image.specs.declared.numbers.Numbers.{Numbers}
-use Rattle.model.specs.Memory.{System, Memory}
-use Rattle.image.specs.declared.names.NameRead.{NameRead}
-use Rattle.model.specs.declared.Enabled.{Enabled}
-use Rattle.image.specs.declared.systems.SystemRead.{SystemRead}
 use Rattle.image.specs.declared.enabled.EnabledRead.{EnabledRead}
+use Rattle.image.specs.declared.enabled.EnabledRead.the-variants.{There, NotThere}
+use Rattle.image.specs.declared.numbers.Numbers.{Numbers}
+use Rattle.image.specs.declared.names.NameRead.{NameRead}
+use Rattle.image.specs.declared.systems.SystemRead.{SystemRead}
 use Rattle.image.specs.declared.memories.SystemsRead.{SystemsRead}
 use Rattle.image.specs.declared.memories.MemoryRead.{MemoryRead}
 
--- a number and the bytes after it
-abbrev pub numberRead : List ℕ → Number → Option (ℕ × List ℕ)
-numberRead bs (Read n next) = some (n, drop next bs)
-numberRead bs Refused = none
+-- ---- enums
+
+-- a number
+abbrev pub numberTold : List ℕ → Number → Told (ℕ × List ℕ)
+numberTold bs (Read n next) = tells (n, drop next bs)
+numberTold bs Refused = refuses 14
 
 abbrev pub numberUpTo : ℕ → ℕ → ℕ → Number
 numberUpTo n next most = cond (ltb most n) Refused (Read n next)
 
--- so many numbers and the bytes after them
-abbrev pub numbersRead : List ℕ → ℕ → Numbers → Option (List ℕ × List ℕ)
-numbersRead bs count r = cond (r .ok) (some (take count (r .values), drop (r .next) bs)) none
+-- what is enabled
+abbrev pub enabledTold : List ℕ → EnabledRead → Told (Enabled × List ℕ)
+enabledTold bs (There e next) = tells (e, drop next bs)
+enabledTold bs NotThere = refuses 14
 
--- a name and the bytes after it
-abbrev pub nameRead : List ℕ → NameRead → Option (List ℕ × List ℕ)
-nameRead bs r = cond (r .ok) (some (bytesOf (r .name), drop (r .next) bs)) none
+-- ---- structs, since they hold an array: `ok` says which case it is
 
--- a system and the bytes after it
-abbrev pub systemRead : List ℕ → SystemRead → Option (System × List ℕ)
-systemRead bs r = cond (r .ok) (some (systemOf (r .system), drop (r .next) bs)) none
+abbrev pub toldIf : {A : Type 0} → Bool → A → Told A
+toldIf ok a = cond ok (tells a) (refuses 14)
 
--- what is enabled and the bytes after it
-abbrev pub enabledRead : List ℕ → EnabledRead → Option (Enabled × List ℕ)
-enabledRead bs r = cond (r .ok) (some (r .enabled, drop (r .next) bs)) none
+-- so many numbers
+abbrev pub numbersTold : List ℕ → ℕ → Numbers → Told (List ℕ × List ℕ)
+numbersTold bs count r = toldIf (r .ok) (take count (r .values), drop (r .next) bs)
 
--- so many systems and the bytes after them
-abbrev pub systemsRead : List ℕ → ℕ → SystemsRead → Option (List System × List ℕ)
-systemsRead bs count r = cond (r .ok) (some (map systemOf (take count (r .systems)), drop (r .next) bs)) none
+-- a name
+abbrev pub nameTold : List ℕ → NameRead → Told (List ℕ × List ℕ)
+nameTold bs r = toldIf (r .ok) (bytesOf (r .name), drop (r .next) bs)
 
--- a memory and the bytes after it
-abbrev pub memoryRead : List ℕ → MemoryRead → Option (Memory × List ℕ)
-memoryRead bs r = cond (r .ok) (some (memoryOf (r .memory), drop (r .next) bs)) none
+-- a system
+abbrev pub systemTold : List ℕ → SystemRead → Told (System × List ℕ)
+systemTold bs r = toldIf (r .ok) (systemOf (r .system), drop (r .next) bs)
+
+-- so many systems
+abbrev pub systemsTold : List ℕ → ℕ → SystemsRead → Told (List System × List ℕ)
+systemsTold bs count r = toldIf (r .ok) (map systemOf (take count (r .systems)), drop (r .next) bs)
+
+-- a memory
+abbrev pub memoryTold : List ℕ → MemoryRead → Told (Memory × List ℕ)
+memoryTold bs r = toldIf (r .ok) (memoryOf (r .memory), drop (r .next) bs)

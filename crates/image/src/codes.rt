@@ -7,7 +7,8 @@ ghost use mathlib.Core.Path.{_≡_};
 ghost use Prim.Native.Nat.{_<_, _^_};
 ghost use lib.IntN.{natAbs};
 ghost use Rattle.model.specs.Image.{signedCode, signedOf};
-ghost use Rattle.image.specs.Codes.{codedAs, kindCoded};
+ghost use Rattle.model.specs.Told.{orNumber};
+ghost use Rattle.image.specs.Codes.{codedTold, kindCoded};
 
 // The type of a code, with its group.
 pub enum Coded {
@@ -16,7 +17,7 @@ pub enum Coded {
 }
 
 pub fn kind_coded(code: u64) -> Coded
-    ensures { λ r. ⌜ codedAs r ≡ kindCoded code ⌝ }
+    ensures { λ r. ⌜ codedTold r ≡ orNumber 14 (kindCoded code) ⌝ }
 {
     match code {
         1 => Coded::Known(Kind::Ksd, Group::Operating),

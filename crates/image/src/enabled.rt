@@ -1,4 +1,4 @@
-// What is enabled, in an image: 0 and a place, or 1, work place, tool place; then orientational and levelling place.
+// What is enabled, in an image: a number that tells one system from a pair, and the places, group by group.
 use crate::numbers::Number;
 use crate::numbers::read_number;
 use crate::numbers::read_numbers;
@@ -9,34 +9,16 @@ use model::Enabled;
 use model::OperatingPart;
 ghost use Prim.Native.Nat.{ℕ, _+_, _≤_, _<_};
 ghost use mathlib.Core.Path.{_≡_};
-ghost use mathlib.Core.Bool.{false};
 ghost use lib.ListN.{length, getD, drop};
-ghost use Rattle.model.specs.Image.{enabledBytes};
-ghost use Rattle.image.specs.Put.{Put};
-ghost use Rattle.image.specs.Strict.{mostByte, enabledFrom, strictEnabled};
-ghost use Rattle.image.specs.Views.{enabledRead};
+ghost use Rattle.model.specs.Told.{orNumber};
+ghost use Rattle.model.specs.Image.{enabledBytes, mostByte, enabledFrom, readEnabled};
+ghost use Rattle.print.specs.Over.{Wrote};
+ghost use Rattle.image.specs.Views.{enabledTold};
 
-// What is enabled, and the place after it.
-pub struct EnabledRead {
-    pub ok: bool,
-    pub next: usize,
-    pub enabled: Enabled,
-}
-
-fn no_enabled() -> EnabledRead
-    ensures { λ r. ⌜ r .ok ≡ false ⌝ }
-{
-    let operating = OperatingPart::Single(0);
-    let enabled = Enabled {
-        operating,
-        orientational: 0,
-        levelling: 0,
-    };
-    EnabledRead {
-        ok: false,
-        next: 0,
-        enabled,
-    }
+// What is enabled, and the place after it; or no such numbers.
+pub enum EnabledRead {
+    There(Enabled, usize),
+    NotThere,
 }
 
 // The number before the operating part says whether it is a pair.
@@ -61,29 +43,25 @@ fn enabled_from(pair: u64, v: [u64; 4]) -> Enabled
 }
 
 pub fn read_enabled(bytes: &[u8], at: usize) -> EnabledRead
-    ensures { λ r. ⌜ enabledRead (now (bytes .entry)) r ≡ strictEnabled (drop at (now (bytes .entry))) ⌝ }
+    ensures { λ r. ⌜ enabledTold (now (bytes .entry)) r ≡ orNumber 14 (readEnabled (drop at (now (bytes .entry)))) ⌝ }
 {
     let first = read_number(bytes, at, 1);
     let Number::Read(pair, next) = first else {
-        return no_enabled();
+        return EnabledRead::NotThere;
     };
     let places = read_numbers(bytes, next, 3 + pair as usize, MOST_BYTE);
     if !places.ok {
-        return no_enabled();
+        return EnabledRead::NotThere;
     }
     let v = places.values;
     let enabled = enabled_from(pair, v);
-    EnabledRead {
-        ok: true,
-        next: places.next,
-        enabled,
-    }
+    EnabledRead::There(enabled, places.next)
 }
 
 // Writes what is enabled from out[at] on; the place after it.
 pub fn write_enabled(out: &mut [u8], at: usize, e: Enabled) -> usize
     requires { ⌜ at + length (enabledBytes e) ≤ length (now out) ⌝ }
-    ensures { λ r. ⌜ Put (enabledBytes e) at (now (out .entry)) (now (out .exit)) r ⌝ }
+    ensures { λ r. ⌜ Wrote (enabledBytes e) (now (out .entry)) at (now (out .exit)) r ⌝ }
 {
     let operating = e.operating;
     let o = e.orientational as u64;

@@ -1,4 +1,5 @@
 // A memory in an image: edition, number of systems, the systems, what is enabled.
+use crate::enabled::EnabledRead;
 use crate::enabled::read_enabled;
 use crate::enabled::write_enabled;
 use crate::numbers::read_numbers;
@@ -6,6 +7,7 @@ use crate::numbers::write_numbers;
 use crate::systems::MOST_BYTE;
 use crate::systems::read_system;
 use crate::systems::write_system;
+use facts::limits::MAX_SYSTEMS;
 use memory::factory::blank_system;
 use memory::factory::factory_memory;
 use model::Memory;
@@ -18,11 +20,11 @@ ghost use lib.ListN.{length, take, drop};
 ghost use Rattle.model.specs.Limits.{maxSystems, bufferLimit};
 ghost use Rattle.model.specs.Lists.{all, joined};
 ghost use Rattle.model.specs.WellFormed.{memoryFine};
-ghost use Rattle.model.specs.Image.{systemBytes, image};
+ghost use Rattle.model.specs.Told.{orNumber};
+ghost use Rattle.model.specs.Image.{systemBytes, image, readSystems, readContents, readMemory};
 ghost use Rattle.model.specs.Stored.{systemsOf, memoryOf, nameShaped, memoryShaped};
-ghost use Rattle.image.specs.Put.{Put};
-ghost use Rattle.image.specs.Strict.{strictSystems, strictMemory};
-ghost use Rattle.image.specs.Views.{systemsRead, memoryRead};
+ghost use Rattle.print.specs.Over.{Wrote};
+ghost use Rattle.image.specs.Views.{systemsTold, memoryTold};
 
 // The edition that is written, and the only one that is read.
 const EDITION: u64 = 1;
@@ -31,16 +33,16 @@ const EDITION: u64 = 1;
 pub struct SystemsRead {
     pub ok: bool,
     pub next: usize,
-    pub systems: [System; 16],
+    pub systems: [System; MAX_SYSTEMS],
 }
 
 fn read_systems(bytes: &[u8], at: usize, count: usize) -> SystemsRead
     requires { ⌜ count ≤ maxSystems ⌝ }
-    ensures { λ r. ⌜ systemsRead (now (bytes .entry)) count r ≡ strictSystems count (drop at (now (bytes .entry))) ⌝ }
+    ensures { λ r. ⌜ systemsTold (now (bytes .entry)) count r ≡ orNumber 14 (readSystems count (drop at (now (bytes .entry)))) ⌝ }
     ensures { λ r. ⌜ (r .ok ≡ true → all nameShaped (take count (r .systems)) ≡ true) ⌝ }
 {
     let blank = blank_system();
-    let mut systems = [blank; 16];
+    let mut systems = [blank; MAX_SYSTEMS];
     let mut next = at;
     let mut i = 0;
     while i < count {
@@ -82,8 +84,34 @@ fn no_memory() -> MemoryRead
     }
 }
 
+// What comes after the edition and the number of systems.
+fn read_contents(bytes: &[u8], at: usize, count: usize) -> MemoryRead
+    requires { ⌜ count ≤ maxSystems ⌝ }
+    ensures { λ r. ⌜ (memoryTold (now (bytes .entry)) r ≡ orNumber 14 (readContents count (drop at (now (bytes .entry))))) × (memoryShaped (r .memory) ≡ true) ⌝ }
+{
+    let listed = read_systems(bytes, at, count);
+    if !listed.ok {
+        return no_memory();
+    }
+    let last = read_enabled(bytes, listed.next);
+    let EnabledRead::There(enabled, next) = last else {
+        return no_memory();
+    };
+    let systems = listed.systems;
+    let memory = Memory {
+        systems,
+        count: count as u8,
+        enabled,
+    };
+    MemoryRead {
+        ok: true,
+        next,
+        memory,
+    }
+}
+
 pub fn read_memory(bytes: &[u8]) -> MemoryRead
-    ensures { λ r. ⌜ (memoryRead (now (bytes .entry)) r ≡ strictMemory (now (bytes .entry))) × (memoryShaped (r .memory) ≡ true) ⌝ }
+    ensures { λ r. ⌜ (memoryTold (now (bytes .entry)) r ≡ orNumber 14 (readMemory (now (bytes .entry)))) × (memoryShaped (r .memory) ≡ true) ⌝ }
 {
     let head = read_numbers(bytes, 0, 2, MOST_BYTE);
     if !head.ok {
@@ -93,36 +121,17 @@ pub fn read_memory(bytes: &[u8]) -> MemoryRead
     if h[0] != EDITION {
         return no_memory();
     }
-    let count = h[1];
-    if 16 < count {
+    let count = h[1] as usize;
+    if MAX_SYSTEMS < count {
         return no_memory();
     }
-    let listed = read_systems(bytes, head.next, count as usize);
-    if !listed.ok {
-        return no_memory();
-    }
-    let last = read_enabled(bytes, listed.next);
-    if !last.ok {
-        return no_memory();
-    }
-    let systems = listed.systems;
-    let enabled = last.enabled;
-    let memory = Memory {
-        systems,
-        count: count as u8,
-        enabled,
-    };
-    MemoryRead {
-        ok: true,
-        next: last.next,
-        memory,
-    }
+    read_contents(bytes, head.next, count)
 }
 
 fn write_systems(out: &mut [u8], at: usize, m: Memory) -> usize
     requires { ⌜ (memoryShaped m ≡ true) × (memoryFine (memoryOf m) ≡ true) ⌝ }
     requires { ⌜ at + length (joined (map systemBytes (systemsOf m))) ≤ length (now out) ⌝ }
-    ensures { λ r. ⌜ Put (joined (map systemBytes (systemsOf m))) at (now (out .entry)) (now (out .exit)) r ⌝ }
+    ensures { λ r. ⌜ Wrote (joined (map systemBytes (systemsOf m))) (now (out .entry)) at (now (out .exit)) r ⌝ }
 {
     let count = m.count as usize;
     let mut next = at;
@@ -138,7 +147,7 @@ fn write_systems(out: &mut [u8], at: usize, m: Memory) -> usize
 // Writes the image of a memory from the start of the buffer; its length.
 pub fn write_memory(m: Memory, out: &mut [u8]) -> usize
     requires { ⌜ (memoryShaped m ≡ true) × (memoryFine (memoryOf m) ≡ true) × (bufferLimit ≤ length (now out)) ⌝ }
-    ensures { λ r. ⌜ Put (image (memoryOf m)) 0 (now (out .entry)) (now (out .exit)) r ⌝ }
+    ensures { λ r. ⌜ Wrote (image (memoryOf m)) (now (out .entry)) 0 (now (out .exit)) r ⌝ }
 {
     let head = [EDITION, m.count as u64, 0, 0];
     let listed_at = write_numbers(out, 0, head, 2);

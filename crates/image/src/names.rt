@@ -1,14 +1,15 @@
-// A name in an image: its bytes as they are.
+// A name read from an image: its bytes as they are. (It is written by print::put_name.)
+use facts::limits::NAME_LIMIT;
+use facts::names;
 use model::Name;
-ghost use Prim.Native.Nat.{_+_, _-_, _≤_};
+ghost use Prim.Native.Nat.{_-_, _≤_};
 ghost use mathlib.Core.Path.{_≡_};
 ghost use mathlib.Core.Bool.{false};
 ghost use lib.ListN.{length, take, drop};
 ghost use Rattle.model.specs.Limits.{nameLimit};
-ghost use Rattle.model.specs.Stored.{bytesOf};
-ghost use Rattle.image.specs.Put.{Put};
-ghost use Rattle.image.specs.Strict.{strictName};
-ghost use Rattle.image.specs.Views.{nameRead};
+ghost use Rattle.model.specs.Told.{orNumber};
+ghost use Rattle.model.specs.Image.{readName};
+ghost use Rattle.image.specs.Views.{nameTold};
 
 // A name, and the place after it.
 pub struct NameRead {
@@ -24,11 +25,11 @@ fn left_from(len: usize, at: usize) -> usize
     if at < len { len - at } else { 0 }
 }
 
-fn copied(bytes: &[u8], at: usize, n: usize) -> [u8; 16]
+fn copied(bytes: &[u8], at: usize, n: usize) -> [u8; NAME_LIMIT]
     requires { ⌜ (n ≤ nameLimit) × (n ≤ length (now bytes) - at) ⌝ }
     ensures { λ r. ⌜ take n r ≡ take n (drop at (now (bytes .entry))) ⌝ }
 {
-    let mut name = [0u8; 16];
+    let mut name = [0u8; NAME_LIMIT];
     let mut i = 0;
     while i < n {
         name[i] = bytes[at + i];
@@ -37,13 +38,10 @@ fn copied(bytes: &[u8], at: usize, n: usize) -> [u8; 16]
     name
 }
 
-fn no_name() -> NameRead
+fn unread() -> NameRead
     ensures { λ r. ⌜ (r .ok ≡ false) × (r .name .len ≤ nameLimit) ⌝ }
 {
-    let name = Name {
-        bytes: [0u8; 16],
-        len: 0,
-    };
+    let name = names::no_name();
     NameRead {
         ok: false,
         next: 0,
@@ -53,14 +51,14 @@ fn no_name() -> NameRead
 
 // A name of that length at a place.
 pub fn read_name(bytes: &[u8], at: usize, len: u64) -> NameRead
-    ensures { λ r. ⌜ (nameRead (now (bytes .entry)) r ≡ strictName len (drop at (now (bytes .entry)))) × (r .name .len ≤ nameLimit) ⌝ }
+    ensures { λ r. ⌜ (nameTold (now (bytes .entry)) r ≡ orNumber 14 (readName len (drop at (now (bytes .entry))))) × (r .name .len ≤ nameLimit) ⌝ }
 {
-    if 16 < len {
-        return no_name();
-    }
     let n = len as usize;
+    if NAME_LIMIT < n {
+        return unread();
+    }
     if left_from(bytes.len(), at) < n {
-        return no_name();
+        return unread();
     }
     let kept = copied(bytes, at, n);
     let name = Name {
@@ -72,19 +70,4 @@ pub fn read_name(bytes: &[u8], at: usize, len: u64) -> NameRead
         next: at + n,
         name,
     }
-}
-
-// Writes a name's bytes from out[at] on; the place after them.
-pub fn write_name(out: &mut [u8], at: usize, name: Name) -> usize
-    requires { ⌜ (name .len ≤ nameLimit) × (at + name .len ≤ length (now out)) ⌝ }
-    ensures { λ r. ⌜ Put (bytesOf name) at (now (out .entry)) (now (out .exit)) r ⌝ }
-{
-    let bytes = name.bytes;
-    let n = name.len as usize;
-    let mut i = 0;
-    while i < n {
-        out[at + i] = bytes[i];
-        i += 1;
-    }
-    at + n
 }

@@ -1,12 +1,12 @@
-// Whole numbers in groups of seven bits, lowest first, each but the last with 128 added.
+// Whole numbers, seven bits to a byte, low ones first, and 128 more where another byte follows.
 use signed::wide;
 ghost use mathlib.Core.Path.{_≡_};
 ghost use Prim.Native.Nat.{_+_, _≤_};
 ghost use lib.ListN.{length, take, drop};
-ghost use Rattle.model.specs.Image.{whole, numbers};
-ghost use Rattle.image.specs.Put.{Put};
-ghost use Rattle.image.specs.Strict.{upTo, several};
-ghost use Rattle.image.specs.Views.{numberRead, numberUpTo, numbersRead};
+ghost use Rattle.model.specs.Told.{orNumber};
+ghost use Rattle.model.specs.Image.{whole, numbers, upTo, several};
+ghost use Rattle.print.specs.Over.{Wrote};
+ghost use Rattle.image.specs.Views.{numberTold, numberUpTo, numbersTold};
 
 // A number, and the place after it; or none in its shortest form that is not above the most.
 pub enum Number {
@@ -25,7 +25,7 @@ fn up_to(value: u64, next: usize, most: u64) -> Number
 
 // The number at a place. What is left above a group is at most the 128th part, so the groups end however many bytes there are.
 pub fn read_number(bytes: &[u8], at: usize, most: u64) -> Number
-    ensures { λ r. ⌜ numberRead (now (bytes .entry)) r ≡ upTo most (drop at (now (bytes .entry))) ⌝ }
+    ensures { λ r. ⌜ numberTold (now (bytes .entry)) r ≡ orNumber 14 (upTo most (drop at (now (bytes .entry)))) ⌝ }
 {
     if bytes.len() <= at {
         return Number::Refused;
@@ -59,7 +59,7 @@ pub struct Numbers {
 // So many numbers, one after the other, each not above the most.
 pub fn read_numbers(bytes: &[u8], at: usize, count: usize, most: u64) -> Numbers
     requires { ⌜ count ≤ 4 ⌝ }
-    ensures { λ r. ⌜ numbersRead (now (bytes .entry)) count r ≡ several count most (drop at (now (bytes .entry))) ⌝ }
+    ensures { λ r. ⌜ numbersTold (now (bytes .entry)) count r ≡ orNumber 14 (several count most (drop at (now (bytes .entry)))) ⌝ }
 {
     let mut values = [0u64; 4];
     let mut next = at;
@@ -91,7 +91,7 @@ pub fn read_numbers(bytes: &[u8], at: usize, count: usize, most: u64) -> Numbers
 // Writes a number from out[at] on; the place after it.
 pub fn write_number(out: &mut [u8], at: usize, n: u64) -> usize
     requires { ⌜ at + length (whole n) ≤ length (now out) ⌝ }
-    ensures { λ r. ⌜ Put (whole n) at (now (out .entry)) (now (out .exit)) r ⌝ }
+    ensures { λ r. ⌜ Wrote (whole n) (now (out .entry)) at (now (out .exit)) r ⌝ }
 {
     let mut left = n;
     let mut i = at;
@@ -107,7 +107,7 @@ pub fn write_number(out: &mut [u8], at: usize, n: u64) -> usize
 // Writes the first values, one after the other.
 pub fn write_numbers(out: &mut [u8], at: usize, values: [u64; 4], count: usize) -> usize
     requires { ⌜ (count ≤ 4) × (at + length (numbers (take count values)) ≤ length (now out)) ⌝ }
-    ensures { λ r. ⌜ Put (numbers (take count values)) at (now (out .entry)) (now (out .exit)) r ⌝ }
+    ensures { λ r. ⌜ Wrote (numbers (take count values)) (now (out .entry)) at (now (out .exit)) r ⌝ }
 {
     let mut next = at;
     let mut i = 0;

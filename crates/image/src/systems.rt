@@ -4,16 +4,17 @@ use crate::codes::kind_coded;
 use crate::codes::signed_code;
 use crate::codes::signed_of;
 use crate::names::read_name;
-use crate::names::write_name;
 use crate::numbers::read_numbers;
 use crate::numbers::write_numbers;
+use facts::kinds::code_of;
+use facts::limits::OFFSET_LIMIT;
 use memory::factory::blank_system;
-use memory::kinds::code_of;
 use model::Kind;
 use model::Name;
 use model::System;
 use model::Turns;
 use model::Vec3;
+use print::put_name;
 ghost use Prim.Native.Nat.{_+_, _≤_, _<_, _^_};
 ghost use mathlib.Core.Path.{_≡_};
 ghost use mathlib.Core.Bool.{true, false};
@@ -22,16 +23,16 @@ ghost use lib.IntN.{natAbs};
 ghost use lib.ListN.{length, getD, take, drop};
 ghost use Rattle.model.specs.Limits.{nameLimit};
 ghost use Rattle.model.specs.Kinds.{ofKind};
-ghost use Rattle.model.specs.Image.{systemBytes, signedCode};
+ghost use Rattle.model.specs.Told.{orNumber};
+ghost use Rattle.model.specs.Image.{systemBytes, signedCode, mostByte, offsetFrom, turnsFrom, readPlaced, readSystem};
 ghost use Rattle.model.specs.Stored.{bytesOf, systemOf, nameShaped};
-ghost use Rattle.image.specs.Put.{Put};
-ghost use Rattle.image.specs.Strict.{mostByte, offsetFrom, turnsFrom, strictPlaced, strictSystem};
-ghost use Rattle.image.specs.Views.{systemRead};
+ghost use Rattle.print.specs.Over.{Wrote};
+ghost use Rattle.image.specs.Views.{systemTold};
 
 // The most that a byte of the memory holds, and that an offset is coded as.
 pub const MOST_BYTE: u64 = 255;
 
-const MOST_OFFSET: u64 = 2000000000;
+const MOST_OFFSET: u64 = 2 * OFFSET_LIMIT;
 
 // A system, and the place after it.
 pub struct SystemRead {
@@ -76,7 +77,7 @@ fn turns_from(t: [u64; 4]) -> Turns
 // What comes after the name: offsets, turns, predecessor place.
 fn read_placed(bytes: &[u8], at: usize, kind: Kind, name: Name) -> SystemRead
     requires { ⌜ name .len ≤ nameLimit ⌝ }
-    ensures { λ r. ⌜ (systemRead (now (bytes .entry)) r ≡ strictPlaced kind (bytesOf name) (drop at (now (bytes .entry)))) × (nameShaped (r .system) ≡ true) ⌝ }
+    ensures { λ r. ⌜ (systemTold (now (bytes .entry)) r ≡ orNumber 14 (readPlaced kind (bytesOf name) (drop at (now (bytes .entry))))) × (nameShaped (r .system) ≡ true) ⌝ }
 {
     let offsets = read_numbers(bytes, at, 3, MOST_OFFSET);
     if !offsets.ok {
@@ -105,7 +106,7 @@ fn read_placed(bytes: &[u8], at: usize, kind: Kind, name: Name) -> SystemRead
 }
 
 pub fn read_system(bytes: &[u8], at: usize) -> SystemRead
-    ensures { λ r. ⌜ (systemRead (now (bytes .entry)) r ≡ strictSystem (drop at (now (bytes .entry)))) × (nameShaped (r .system) ≡ true) ⌝ }
+    ensures { λ r. ⌜ (systemTold (now (bytes .entry)) r ≡ orNumber 14 (readSystem (drop at (now (bytes .entry))))) × (nameShaped (r .system) ≡ true) ⌝ }
 {
     let head = read_numbers(bytes, at, 2, MOST_BYTE);
     if !head.ok {
@@ -147,7 +148,7 @@ fn turned_of(t: Turns, pred: u8) -> [u64; 4]
 pub fn write_system(out: &mut [u8], at: usize, s: System) -> usize
     requires { ⌜ (nameShaped s ≡ true) × (at + length (systemBytes (systemOf s)) ≤ length (now out)) ⌝ }
     requires { ⌜ (natAbs (s .offset .x) < 2 ^ 62) × (natAbs (s .offset .y) < 2 ^ 62) × (natAbs (s .offset .z) < 2 ^ 62) ⌝ }
-    ensures { λ r. ⌜ Put (systemBytes (systemOf s)) at (now (out .entry)) (now (out .exit)) r ⌝ }
+    ensures { λ r. ⌜ Wrote (systemBytes (systemOf s)) (now (out .entry)) at (now (out .exit)) r ⌝ }
 {
     let kind = s.kind;
     let name = s.name;
@@ -157,7 +158,7 @@ pub fn write_system(out: &mut [u8], at: usize, s: System) -> usize
     let offsets = offsets_of(offset);
     let turned = turned_of(turns, s.pred);
     let named_at = write_numbers(out, at, head, 2);
-    let placed_at = write_name(out, named_at, name);
+    let placed_at = put_name(out, named_at, name);
     let turned_at = write_numbers(out, placed_at, offsets, 3);
     write_numbers(out, turned_at, turned, 4)
 }

@@ -9,15 +9,16 @@ use Rattle.model.specs.declared.Memory.{Memory as StoredMemory}
 use Rattle.model.specs.Memory.{Memory, started, factory}
 use Rattle.model.specs.Refusals.{short}
 use Rattle.model.specs.Image.{image, accepted}
-use Rattle.model.specs.Machine.{stepped, writeImage, startImage, startFactory, began, answered, refused}
-use Rattle.model.specs.Stored.{View, holds, ofOutcome, ofBegun, memoryShaped, shaped, stateOf, memoryOf, viewOf, lineAnswer, imageAnswer}
+use Rattle.model.specs.Machine.{stepped, restart, writeImage, startImage, startFactory, began, answered, refused}
+use Rattle.model.specs.Stored.{FineState, View, holds, ofOutcome, ofBegun, memoryShaped, shaped, stateOf, memoryOf, viewOf, lineAnswer, imageAnswer, restartAnswer}
 use Rattle.model.proofs.Ladder.Exact.{start-none, start-some}
 use Rattle.image.specs.declared.ImageRead.{ImageRead}
 use Rattle.image.specs.Accepted.{Answers}
-use Rattle.engine.specs.Fine.{Fine}
-use Rattle.engine.proofs.Views.{view-holds, shape-both}
+use Rattle.machine.specs.Calls.{startedWith, begunOf}
+use Rattle.memory.proofs.Shape.{shape-both, shape-parts}
+use Rattle.engine.proofs.Views.{view-holds}
 
-module _ (s : StoredState) (f : Fine s) where
+module _ (s : StoredState) (f : FineState s) where
   pub line-fine : (l b : List ℕ) → lineAnswer (viewOf s) l b ≡ ofOutcome (stepped (stateOf s) l b)
   unfolding lineAnswer
   line-fine l b = rw (view-holds s (f .shape)) refl
@@ -45,12 +46,13 @@ module _ (s : StoredState) (f : Fine s) where
 
 -- ---- starts
 
--- both memories are m, level 0, no error
-abbrev pub startedWith : StoredMemory → StoredState
-startedWith m = record { volatile = m; permanent = m; level = 0; error = 0 }
-
-start-holds : (m : StoredMemory) → memoryShaped m ≡ true → viewOf (startedWith m) ≡ holds (started (memoryOf m))
+pub start-holds : (m : StoredMemory) → memoryShaped m ≡ true → viewOf (startedWith m) ≡ holds (started (memoryOf m))
 start-holds m p = view-holds (startedWith m) (shape-both (startedWith m) p p)
+
+-- [Memory 4] a restart that is taken
+pub restart-taken : (s : StoredState) → FineState s → begunOf (record { state = startedWith (s .permanent); number = 0 }) ≡ restartAnswer (viewOf s)
+unfolding restartAnswer restart
+restart-taken s f = rw (view-holds s (f .shape), start-holds (s .permanent) (shape-parts s (f .shape) .1)) (rw (f .formed, restart))
 
 module _ (bs : List ℕ) (r : ImageRead) (a : Answers bs r) where
   -- [Image] accepted

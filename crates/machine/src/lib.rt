@@ -1,12 +1,19 @@
 // The machine's public calls. None asks anything of its caller: a state that is not well formed comes back as it is, with 1.
 use engine::answer::Stepped;
-use engine::line::ROOM;
+use facts::limits::BUFFER_LIMIT;
+use facts::numbers::ACCEPTED;
+use facts::numbers::ILL_FORMED;
+use facts::numbers::NO_IMAGE;
+use facts::numbers::SHORT;
+use memory::factory::factory_memory;
+use memory::fine::state_fine;
+use model::Memory;
 use model::State;
 ghost use mathlib.Core.Path.{_≡_};
 ghost use Rattle.model.specs.Machine.{startFactory, startImage};
 ghost use Rattle.model.specs.Stored.{viewOf, holds, ofBegun, lineAnswer, imageAnswer, restartAnswer};
-ghost use Rattle.engine.specs.Fine.{answeredOf};
-ghost use Rattle.machine.specs.Calls.{begunOf};
+ghost use Rattle.engine.specs.Answers.{answeredOf};
+ghost use Rattle.machine.specs.Calls.{begunOf, startedWith};
 
 // What a call without a lent buffer gives: the next state, and the number (0: accepted).
 pub struct Begun {
@@ -14,75 +21,78 @@ pub struct Begun {
     pub number: u8,
 }
 
-pub fn start_factory() -> State
-    ensures { λ r. ⌜ viewOf r ≡ holds startFactory ⌝ }
+// A start with a memory: both memories, level 0, no error.
+fn started(m: Memory) -> State
+    ensures { λ r. ⌜ r ≡ startedWith m ⌝ }
 {
-    let m = memory::factory::factory_memory();
     State {
         volatile: m,
         permanent: m,
         level: 0,
-        error: 0,
+        error: ACCEPTED,
     }
+}
+
+pub fn start_factory() -> State
+    ensures { λ r. ⌜ viewOf r ≡ holds startFactory ⌝ }
+{
+    started(factory_memory())
 }
 
 // Switching off and on.
 pub fn restart(s: State) -> Begun
     ensures { λ r. ⌜ begunOf r ≡ restartAnswer (viewOf s) ⌝ }
 {
-    if !memory::fine::state_fine(s) {
+    if !state_fine(s) {
         return Begun {
             state: s,
-            number: 1,
+            number: ILL_FORMED,
         };
     }
-    let m = s.permanent;
-    let state = State {
-        volatile: m,
-        permanent: m,
-        level: 0,
-        error: 0,
-    };
-    Begun { state, number: 0 }
+    let saved = s.permanent;
+    let state = started(saved);
+    Begun {
+        state,
+        number: ACCEPTED,
+    }
+}
+
+// A refusal that leaves the state and the lent buffer as they are.
+fn refusing(s: State, number: u8) -> Stepped
+    ensures { λ r. ⌜ r ≡ record { state = s; number = number; length = 0 } ⌝ }
+{
+    Stepped {
+        state: s,
+        number,
+        length: 0,
+    }
 }
 
 // A command line, with a lent buffer for its reply.
 pub fn line(s: State, line: &[u8], reply: &mut [u8]) -> Stepped
     ensures { λ r. ⌜ answeredOf r (now (reply .exit)) ≡ lineAnswer (viewOf s) (now (line .entry)) (now (reply .entry)) ⌝ }
 {
-    if !memory::fine::state_fine(s) {
-        return Stepped {
-            state: s,
-            number: 1,
-            length: 0,
-        };
+    if state_fine(s) {
+        return engine::line::obey(s, line, reply);
     }
-    engine::line::obey(s, line, reply)
+    refusing(s, ILL_FORMED)
 }
 
 // The image of the permanent memory, into a lent buffer.
 pub fn write_image(s: State, out: &mut [u8]) -> Stepped
     ensures { λ r. ⌜ answeredOf r (now (out .exit)) ≡ imageAnswer (viewOf s) (now (out .entry)) ⌝ }
 {
-    if !memory::fine::state_fine(s) {
-        return Stepped {
-            state: s,
-            number: 1,
-            length: 0,
-        };
+    if !state_fine(s) {
+        return refusing(s, ILL_FORMED);
     }
-    if out.len() < ROOM {
-        return Stepped {
-            state: s,
-            number: 2,
-            length: 0,
-        };
+    if out.len() < BUFFER_LIMIT {
+        return refusing(s, SHORT);
     }
-    let m = s.permanent;
-    let length = image::write(m, out);
+    let kept = s.permanent;
+    let length = image::write(kept, out);
     Stepped {
         state: s,
-        number: 0,
+        number: ACCEPTED,
         length,
     }
 }
@@ -93,14 +103,15 @@ pub fn start_image(bytes: &[u8]) -> Begun
 {
     let found = image::read(bytes);
     let m = found.memory;
-    let state = State {
-        volatile: m,
-        permanent: m,
-        level: 0,
-        error: 0,
-    };
+    let state = started(m);
     if found.ok {
-        return Begun { state, number: 0 };
+        return Begun {
+            state,
+            number: ACCEPTED,
+        };
     }
-    Begun { state, number: 14 }
+    Begun {
+        state,
+        number: NO_IMAGE,
+    }
 }

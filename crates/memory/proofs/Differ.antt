@@ -8,6 +8,7 @@ use native.Mathlib.Decide.{decLt}
 use native.Mathlib.Numerals.{add-one}
 use lib.ListN.{length, drop, getD, drop-of-length-le}
 use lib.Seq.{drop-cons}
+use Rattle.model.specs.Limits.{maxSystems}
 use Rattle.model.specs.declared.Memory.{Memory as StoredMemory}
 use Rattle.model.specs.Lists.{same, any}
 use Rattle.model.specs.Memory.{System, blank}
@@ -55,6 +56,6 @@ module _ (l : List System) where
   left-end i j h k = rw (any-end (alike l i) l j (omega arith), drop-of-length-le l {i = i + 1} (omega arith))
 
 -- the names at i and j, as they are stored
-pub stored-alike : (m : StoredMemory) (k : ℕ) → length (m .systems) ≡ 16 → k ≡ min (m .count) 16 → (i j : ℕ) → i < k → j < k
+pub stored-alike : (m : StoredMemory) (k : ℕ) → length (m .systems) ≡ maxSystems → k ≡ min (m .count) maxSystems → (i j : ℕ) → i < k → j < k
     → alike (systemsOf m) i (getD (systemsOf m) j blank) ≡ same (bytesOf (getD (m .systems) i unset .name)) (bytesOf (getD (m .systems) j unset .name))
 stored-alike m k long count i j hi hj = rw (system-at m k long count i hi, system-at m k long count j hj)

@@ -8,6 +8,7 @@ use native.Mathlib.Numerals.{add-one}
 use borrow.Author.Tests.{lt-ltb, le-ltb}
 use lib.ListN.{length, take, getD, set, length-map, length-take}
 use lib.Seq.{take-set-lt, take-set-le, take-suc, take-suc-set, set-out, getD-set-other}
+use Rattle.model.specs.Limits.{maxSystems}
 use Rattle.model.specs.declared.System.{System as StoredSystem}
 use Rattle.model.specs.declared.Memory.{Memory as StoredMemory}
 use Rattle.model.specs.Memory.{System, blank, systemAt}
@@ -61,7 +62,7 @@ unfolding systemAt
 at-place l zero h = absurd (omega arith)
 at-place l (suc i) h = let e : suc i - 1 ≡ i = omega arith in rw e
 
-module _ (m : StoredMemory) (k : ℕ) (long : length (m .systems) ≡ 16) (count : k ≡ min (m .count) 16) (a : ℕ) (pos : 0 < a) (there : a ≤ k) where
+module _ (m : StoredMemory) (k : ℕ) (long : length (m .systems) ≡ maxSystems) (count : k ≡ min (m .count) maxSystems) (a : ℕ) (pos : 0 < a) (there : a ≤ k) where
   pub length-without : length (without (systemsOf m) a) ≡ k - 1
   length-without = let n = length-systems m k long count in without-length (systemsOf m) a pos (omega arith) ∙ omega arith
 

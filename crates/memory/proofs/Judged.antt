@@ -7,21 +7,17 @@ use native.Mathlib.Omega.{arith}
 use borrow.Author.Tests.{le-leb, lt-leb}
 use lib.Dec.{leb, eqb}
 use lib.ListN.{length, take, length-map, length-take}
+use Rattle.model.specs.Limits.{maxSystems}
 use Rattle.model.specs.declared.Memory.{Memory as StoredMemory}
 use Rattle.model.specs.declared.State.{State as StoredState}
-use Rattle.model.specs.Lists.{all, between}
-use Rattle.model.specs.Limits.{largestNumber}
-use Rattle.model.specs.Memory.{System}
+use Rattle.model.specs.Lists.{all}
+use Rattle.model.specs.Refusals.{ofLine?}
 use Rattle.model.specs.Chain.{noRing}
-use Rattle.model.specs.WellFormed.{isKind, systemFine, namesDiffer, enabledFine, memoryFine, wellFormed}
+use Rattle.model.specs.WellFormed.{systemFine, namesDiffer, enabledFine, memoryFine, wellFormed}
 use Rattle.model.specs.Stored.{systemOf, systemsOf, memoryOf, stateOf, nameShaped, memoryShaped, shaped}
 use Rattle.model.proofs.Basics.{and-assoc}
 use Rattle.text.proofs.Lists.{and-true, and-false}
-use Rattle.memory.specs.Fine.{aloneFine, storedFine, storedAllFine}
-
-pub alone-and-link : (l : List System) (s : System) → systemFine l s ≡ aloneFine s && isKind l (s .kind) (s .pred)
-unfolding systemFine aloneFine
-alone-and-link l s = refl
+use Rattle.memory.specs.Fine.{storedFine, storedAllFine}
 
 and-swap : (a b c d : Bool) → (a && b) && (c && d) ≡ (a && c) && (b && d)
 and-swap true true c d = refl
@@ -47,16 +43,16 @@ module _ (m : StoredMemory) where
   unfolding storedAllFine storedFine
   stored-all = all-both nameShaped (systemFine (systemsOf m)) systemOf (take (m .count) (m .systems))
 
-  pub judged-long : 16 < m .count → memoryShaped m && memoryFine (memoryOf m) ≡ false
+  pub judged-long : maxSystems < m .count → memoryShaped m && memoryFine (memoryOf m) ≡ false
   unfolding memoryShaped
-  judged-long h = rw (lt-leb (m .count) 16 h)
+  judged-long h = rw (lt-leb (m .count) maxSystems h)
 
-  pub judged : m .count ≤ 16 → memoryShaped m && memoryFine (memoryOf m)
+  pub judged : m .count ≤ maxSystems → memoryShaped m && memoryFine (memoryOf m)
       ≡ (storedAllFine m && enabledFine (systemsOf m) (m .enabled)) && (namesDiffer (systemsOf m) && noRing (systemsOf m))
   unfolding memoryShaped memoryFine
   judged h =
-      let few : length (systemsOf m) ≤ 16 = simp (length-map, length-take) (omega arith) in
-      rw (le-leb (m .count) 16 h, le-leb (length (systemsOf m)) 16 few, ← stored-all)
+      let few : length (systemsOf m) ≤ maxSystems = simp (length-map, length-take) (omega arith) in
+      rw (le-leb (m .count) maxSystems h, le-leb (length (systemsOf m)) maxSystems few, ← stored-all)
       (regroup (all nameShaped (take (m .count) (m .systems))) (all (systemFine (systemsOf m)) (systemsOf m)) _ _ _)
 
 rotate : (s f v : Bool) → s && (f && v) ≡ v && (s && f)
@@ -66,9 +62,9 @@ rotate false f v = sym (and-false v)
 
 -- a stored state: its level and last error, and each memory
 pub state-judged : (s : StoredState) → shaped s && wellFormed (stateOf s)
-    ≡ (leb (s .level) 1 && (eqb (s .error) 0 || between 2 largestNumber (s .error)))
+    ≡ (leb (s .level) 1 && (eqb (s .error) 0 || ofLine? (s .error)))
     && ((memoryShaped (s .volatile) && memoryFine (memoryOf (s .volatile))) && (memoryShaped (s .permanent) && memoryFine (memoryOf (s .permanent))))
 unfolding shaped wellFormed
 state-judged s =
-    rw (and-assoc (memoryFine (memoryOf (s .volatile)) && memoryFine (memoryOf (s .permanent))) (leb (s .level) 1) (eqb (s .error) 0 || between 2 largestNumber (s .error)), and-swap (memoryShaped (s .volatile)) (memoryFine (memoryOf (s .volatile))) (memoryShaped (s .permanent)) (memoryFine (memoryOf (s .permanent))))
+    rw (and-assoc (memoryFine (memoryOf (s .volatile)) && memoryFine (memoryOf (s .permanent))) (leb (s .level) 1) (eqb (s .error) 0 || ofLine? (s .error)), and-swap (memoryShaped (s .volatile)) (memoryFine (memoryOf (s .volatile))) (memoryShaped (s .permanent)) (memoryFine (memoryOf (s .permanent))))
     (rotate (memoryShaped (s .volatile) && memoryShaped (s .permanent)) (memoryFine (memoryOf (s .volatile)) && memoryFine (memoryOf (s .permanent))) _)

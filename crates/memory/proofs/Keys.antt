@@ -7,6 +7,7 @@ use mathlib.Core.Logic.{⊎-elim}
 use native.Mathlib.Omega.{arith}
 use lib.ListN.{length, take, getD}
 use lib.Seq.{getD-take}
+use Rattle.model.specs.Limits.{nameLimit}
 use Rattle.model.specs.declared.Name.{Name}
 use Rattle.model.specs.Lists.{same}
 use Rattle.model.specs.Memory.{System, blank}
@@ -15,7 +16,7 @@ use Rattle.model.proofs.Basics.{either, same→≡}
 use Rattle.memory.specs.Keys.{keyOf, keysOf}
 use Rattle.memory.proofs.Laws.{name-count, name-bytes, mapped-at}
 
-module _ (n : Name) (k : ℕ) (long : length (n .bytes) ≡ 16) (count : k ≡ min (n .len) 16) where
+module _ (n : Name) (k : ℕ) (long : length (n .bytes) ≡ nameLimit) (count : k ≡ min (n .len) nameLimit) where
   pub key-none : k ≡ 0 → keyOf (bytesOf n) ≡ 0
   key-none z = let e : take 0 (n .bytes) ≡ bytesOf n = rw z at (name-bytes n k long count) in rw (← e)
 

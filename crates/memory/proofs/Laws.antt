@@ -6,6 +6,7 @@ use native.Mathlib.Omega.{arith}
 use native.Mathlib.Numerals.{add-one}
 use lib.ListN.{length, take, getD, set, length-take, length-map, List·getD-map}
 use lib.Seq.{take-suc, take-suc-set}
+use Rattle.model.specs.Limits.{maxSystems, nameLimit}
 use Rattle.model.specs.declared.Name.{Name}
 use Rattle.model.specs.declared.Memory.{Memory as StoredMemory}
 use Rattle.model.specs.Memory.{System, blank}
@@ -30,7 +31,7 @@ pub filled-turn : {A : Type 0} (xs l : List A) (i : ℕ) (v d : A) → i < lengt
 filled-turn xs l i v d hx hl e ev = rw (add-one, take-suc-set xs i v, take-suc l i d, e, ev)
 
 -- a stored name of k bytes: the slice that the code makes of it
-module _ (n : Name) (k : ℕ) (long : length (n .bytes) ≡ 16) (count : k ≡ min (n .len) 16) where
+module _ (n : Name) (k : ℕ) (long : length (n .bytes) ≡ nameLimit) (count : k ≡ min (n .len) nameLimit) where
   pub name-fits : k ≤ length (n .bytes)
   name-fits = omega arith
 
@@ -38,10 +39,10 @@ module _ (n : Name) (k : ℕ) (long : length (n .bytes) ≡ 16) (count : k ≡ m
   name-count = simp length-take (omega arith)
 
   pub name-bytes : take k (n .bytes) ≡ bytesOf n
-  name-bytes = rw count (take-min (n .len) 16 (n .bytes) long)
+  name-bytes = rw count (take-min (n .len) nameLimit (n .bytes) long)
 
 -- a stored memory whose first k systems count
-module _ (m : StoredMemory) (k : ℕ) (long : length (m .systems) ≡ 16) (count : k ≡ min (m .count) 16) where
+module _ (m : StoredMemory) (k : ℕ) (long : length (m .systems) ≡ maxSystems) (count : k ≡ min (m .count) maxSystems) where
   pub length-systems : length (systemsOf m) ≡ k
   length-systems = stored-length (m .systems) (m .count) ∙ omega arith
 

@@ -9,6 +9,7 @@ use native.Mathlib.Numerals.{add-one}
 use borrow.Author.Tests.{lt-ltb, le-ltb, eqb-true}
 use lib.Dec.{eqb}
 use lib.ListN.{length, getD}
+use Rattle.model.specs.Limits.{maxSystems}
 use Rattle.model.specs.declared.System.{System as StoredSystem}
 use Rattle.model.specs.declared.Memory.{Memory as StoredMemory}
 use Rattle.model.specs.Lists.{same, least}
@@ -87,7 +88,7 @@ module _ (m : StoredMemory) (n : List ℕ) where
   unfolding systemAt
   seen-none s e p = record { first = record { met = λ h. absurd (omega arith); passed = λ j h. absurd (omega arith) }; system-is = e; shaped = λ q. p }
 
-  module _ (k : ℕ) (long : length (m .systems) ≡ 16) (count : k ≡ min (m .count) 16) where
+  module _ (k : ℕ) (long : length (m .systems) ≡ maxSystems) (count : k ≡ min (m .count) maxSystems) where
     module _ (i : ℕ) (within : i < k) (place : ℕ) (s : StoredSystem) (seen : Seen m n i place s) where
       abbrev here : StoredSystem
       here = getD (m .systems) i unset

@@ -10,10 +10,12 @@ use borrow.Author.Tests.{le-leb, leb-true}
 use lib.Dec.{leb}
 use lib.ListN.{length, take, getD, set}
 use lib.Seq.{take-set-lt, take-set-le, take-suc-set, getD-take, length-take-le}
+use Rattle.model.specs.Limits.{maxSystems}
 use Rattle.model.specs.declared.System.{System as StoredSystem}
 use Rattle.model.specs.declared.Memory.{Memory as StoredMemory}
+use Rattle.model.specs.declared.State.{State as StoredState}
 use Rattle.model.specs.Lists.{all}
-use Rattle.model.specs.Stored.{nameShaped, memoryShaped}
+use Rattle.model.specs.Stored.{nameShaped, memoryShaped, shaped}
 use Rattle.model.proofs.Basics.{and-split, and-join, all-append, all-at}
 
 module _ {A : Type 0} (p : A → Bool) (a : A) (pa : p a ≡ true) where
@@ -36,13 +38,13 @@ module _ {A : Type 0} (p : A → Bool) (a : A) (pa : p a ≡ true) where
   all-more l n h e = rw (add-one, take-suc-set l n a, all-append p (take n l) (a ∷ [])) (and-join e (and-join pa refl))
 
 module _ (m : StoredMemory) (e : memoryShaped m ≡ true) where
-  pub shaped-count : m .count ≤ 16
+  pub shaped-count : m .count ≤ maxSystems
   unfolding memoryShaped
-  shaped-count = leb-true (m .count) 16 (and-split _ _ e .0)
+  shaped-count = leb-true (m .count) maxSystems (and-split _ _ e .0)
 
   shaped-names : all nameShaped (take (m .count) (m .systems)) ≡ true
   unfolding memoryShaped
-  shaped-names = and-split (leb (m .count) 16) _ e .1
+  shaped-names = and-split (leb (m .count) maxSystems) _ e .1
 
   -- a stored system of a memory with shape has shape
   pub shaped-at : (d : StoredSystem) (i : ℕ) → i < m .count → m .count ≤ length (m .systems) → nameShaped (getD (m .systems) i d) ≡ true
@@ -53,9 +55,19 @@ module _ (m : StoredMemory) (e : memoryShaped m ≡ true) where
   module _ (s : StoredSystem) (es : nameShaped s ≡ true) where
     pub shaped-set : (i : ℕ) → memoryShaped (record { systems = set (m .systems) i s; count = m .count; enabled = m .enabled }) ≡ true
     unfolding memoryShaped
-    shaped-set i = and-join (le-leb (m .count) 16 shaped-count) (all-take-set nameShaped s es (m .systems) (m .count) i shaped-names)
+    shaped-set i = and-join (le-leb (m .count) maxSystems shaped-count) (all-take-set nameShaped s es (m .systems) (m .count) i shaped-names)
 
-    pub shaped-more : m .count < 16 → m .count < length (m .systems)
+    pub shaped-more : m .count < maxSystems → m .count < length (m .systems)
         → memoryShaped (record { systems = set (m .systems) (m .count) s; count = m .count + 1; enabled = m .enabled }) ≡ true
     unfolding memoryShaped
-    shaped-more h k = and-join (le-leb (m .count + 1) 16 (omega arith)) (all-more nameShaped s es (m .systems) (m .count) k shaped-names)
+    shaped-more h k = and-join (le-leb (m .count + 1) maxSystems (omega arith)) (all-more nameShaped s es (m .systems) (m .count) k shaped-names)
+
+-- ---- a state
+
+pub shape-both : (s : StoredState) → memoryShaped (s .volatile) ≡ true → memoryShaped (s .permanent) ≡ true → shaped s ≡ true
+unfolding shaped
+shape-both s v p = and-join v p
+
+pub shape-parts : (s : StoredState) → shaped s ≡ true → (memoryShaped (s .volatile) ≡ true) × (memoryShaped (s .permanent) ≡ true)
+unfolding shaped
+shape-parts s e = and-split (memoryShaped (s .volatile)) (memoryShaped (s .permanent)) e

@@ -1,19 +1,11 @@
 -- The parts in which the code judges a memory.
-use Rattle.model.specs.Base.{List, Bool, not, _&&_, _||_, take}
+use Rattle.model.specs.Base.{List, Bool, _&&_, take}
 use Rattle.model.specs.declared.System.{System as StoredSystem}
 use Rattle.model.specs.declared.Memory.{Memory as StoredMemory}
 use Rattle.model.specs.Lists.{all}
-use Rattle.model.specs.Kinds.{ofKind}
 use Rattle.model.specs.Memory.{System}
-use Rattle.model.specs.Words.{legalName, reserved}
-use Rattle.model.specs.WellFormed.{offsetsFine, turnsFine, noOffset, systemFine}
+use Rattle.model.specs.WellFormed.{systemFine}
 use Rattle.model.specs.Stored.{systemOf, systemsOf, nameShaped}
-
--- a system, its predecessor apart
-unfoldable pub aloneFine : System → Bool
-aloneFine s =
-    legalName (s .name) && not (reserved (s .name)) && offsetsFine (s .offset) && turnsFine (s .turns)
-    && (not (ofKind (s .kind) .turnsOnly) || noOffset (s .offset))
 
 -- a stored system of a memory: its shape, and what it stands for
 unfoldable pub storedFine : List System → StoredSystem → Bool

@@ -1,18 +1,23 @@
 -- What a search by name answers, in the definitions' terms.
 use mathlib.Core.Path.{_≡_}
-use Rattle.model.specs.Base.{ℕ, List, Option, none, some, true}
+use Rattle.model.specs.Base.{ℕ, List, Option, true}
 use Rattle.model.specs.declared.Memory.{Memory as StoredMemory}
 use Rattle.model.specs.declared.System.{System as StoredSystem}
 use Rattle.model.specs.Memory.{System, Ref, fixedRef, userRef, systemAt, placeNamed}
+use Rattle.model.specs.Told.{Told, tells, refuses}
 use Rattle.model.specs.Stored.{systemOf, systemsOf, nameShaped, memoryShaped}
 use Rattle.memory.specs.declared.find.Found.{Found}
 use Rattle.memory.specs.declared.find.Found.the-variants.{User, Fixed, Absent}
 
--- the system that was found among these, if there is one
-unfoldable pub foundRef : List System → Found → Option Ref
-foundRef l (User k) = some (userRef l k)
-foundRef l (Fixed g) = some (fixedRef g)
-foundRef l Absent = none
+-- [Error 7] what the answer says: the system that was found, a user system being one of l, or number 7
+unfoldable pub foundTold : List System → Found → Told Ref
+foundTold l (User k) = tells (userRef l k)
+foundTold l (Fixed g) = tells (fixedRef g)
+foundTold l Absent = refuses 7
+
+-- the system itself, if there is one
+abbrev pub foundRef : List System → Found → Option Ref
+foundRef l f = foundTold l f .value
 
 -- its place: 0 is no user system
 unfoldable pub foundPlace : Found → ℕ

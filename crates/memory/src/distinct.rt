@@ -2,11 +2,13 @@
 use crate::names::clipped;
 use crate::names::same_name;
 use chains::links::held;
+use facts::limits::MAX_SYSTEMS;
 use model::Memory;
 use model::Name;
 ghost use Prim.Native.Nat.{min};
 ghost use mathlib.Core.Path.{_≡_};
 ghost use lib.ListN.{take};
+ghost use Rattle.model.specs.Limits.{maxSystems};
 ghost use Rattle.model.specs.WellFormed.{namesDiffer};
 ghost use Rattle.model.specs.Stored.{bytesOf, systemsOf};
 ghost use Rattle.memory.specs.Keys.{keyOf, keysOf};
@@ -25,11 +27,11 @@ fn name_key(n: Name) -> u32
     k as u32 + 256 * first + 65536 * last
 }
 
-fn name_keys(m: Memory) -> [u32; 16]
-    ensures { λ r. ⌜ take (min (m .count) 16) r ≡ keysOf (systemsOf m) ⌝ }
+fn name_keys(m: Memory) -> [u32; MAX_SYSTEMS]
+    ensures { λ r. ⌜ take (min (m .count) maxSystems) r ≡ keysOf (systemsOf m) ⌝ }
 {
     let count = held(m.count);
-    let mut keys = [0u32; 16];
+    let mut keys = [0u32; MAX_SYSTEMS];
     let mut i = 0;
     while i < count {
         let s = m.systems[i];

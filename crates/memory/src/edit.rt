@@ -1,6 +1,6 @@
 // Edits of a memory by places: a system put or removed. A search by name gives the places.
-use crate::kinds::group_of;
 use chains::links::held;
+use facts::kinds::group_of;
 use model::Enabled;
 use model::Group;
 use model::Kind;

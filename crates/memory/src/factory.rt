@@ -1,8 +1,9 @@
 // The factory memory, and the system that fills a place where there is none.
+use facts::limits::MAX_SYSTEMS;
+use facts::names::no_name;
 use model::Enabled;
 use model::Kind;
 use model::Memory;
-use model::Name;
 use model::OperatingPart;
 use model::System;
 use model::Turns;
@@ -16,10 +17,7 @@ pub fn blank_system() -> System
     ensures { λ r. ⌜ systemOf r ≡ blank ⌝ }
     ensures { λ r. ⌜ nameShaped r ≡ true ⌝ }
 {
-    let name = Name {
-        bytes: [0; 16],
-        len: 0,
-    };
+    let name = no_name();
     let offset = Vec3 { x: 0, y: 0, z: 0 };
     let turns = Turns { u: 0, v: 0, w: 0 };
     let kind = Kind::Ksd;
@@ -38,7 +36,7 @@ pub fn factory_memory() -> Memory
     ensures { λ r. ⌜ memoryShaped r ≡ true ⌝ }
 {
     let blank = blank_system();
-    let systems = [blank; 16];
+    let systems = [blank; MAX_SYSTEMS];
     let operating = OperatingPart::Single(0);
     let enabled = Enabled {
         operating,

@@ -4,6 +4,7 @@ use crate::names::clipped;
 use crate::names::same_name;
 use chains::links::Links;
 use chains::links::held;
+use facts::limits::MAX_SYSTEMS;
 use model::Enabled;
 use model::Group;
 use model::Memory;
@@ -18,12 +19,13 @@ ghost use lib.ListN.{length};
 ghost use Rattle.model.specs.Lists.{same};
 ghost use Rattle.model.specs.Memory.{System as SystemOf, placeNamed, fixedNamed, find};
 ghost use Rattle.model.specs.Kinds.{groups};
+ghost use Rattle.model.specs.Told.{orNumber};
 ghost use Rattle.model.specs.Stored.{bytesOf, systemOf, systemsOf};
 ghost use Rattle.chains.specs.Flat.{LinksOf};
-ghost use Rattle.memory.specs.Found.{foundRef, foundPlace, Stands};
+ghost use Rattle.memory.specs.Found.{foundTold, foundPlace, Stands};
 ghost use Rattle.memory.specs.Put.{holding};
 
-// What a name means: the user system at a place, a group's fixed system, or nothing.
+// What a name means: the user system at a place, a group's fixed system, or nothing, which number 7 says.
 pub enum Found {
     User(u8),
     Fixed(Group),
@@ -62,7 +64,7 @@ pub fn places_named(m: Memory, a: Name, b: Name) -> Places
     let mut one = blank_system();
     let mut second = 0;
     let mut other = one;
-    let mut preds = [0u8; 16];
+    let mut preds = [0u8; MAX_SYSTEMS];
     let mut i = 0;
     while i < count {
         let s = m.systems[i];
@@ -89,7 +91,7 @@ pub fn places_named(m: Memory, a: Name, b: Name) -> Places
 
 // The fixed system of that name.
 fn fixed_named(t: &[u8]) -> Found
-    ensures { λ r. ⌜ ((l : List SystemOf) → foundRef l r ≡ fixedNamed groups (now (t .entry))) ⌝ }
+    ensures { λ r. ⌜ ((l : List SystemOf) → foundTold l r ≡ orNumber 7 (fixedNamed groups (now (t .entry)))) ⌝ }
     ensures { λ r. ⌜ foundPlace r ≡ 0 ⌝ }
 {
     if same_bytes(t, b"ZERO") {
@@ -106,7 +108,7 @@ fn fixed_named(t: &[u8]) -> Found
 
 // What a name means whose user system stands at a place, 0 if it has none.
 pub fn found_at(place: u8, n: Name) -> Found
-    ensures { λ r. ⌜ ((l : List SystemOf) (e : Enabled) → place ≡ placeNamed l (bytesOf n) → foundRef l r ≡ find (holding l e) (bytesOf n)) ⌝ }
+    ensures { λ r. ⌜ ((l : List SystemOf) (e : Enabled) → place ≡ placeNamed l (bytesOf n) → foundTold l r ≡ orNumber 7 (find (holding l e) (bytesOf n))) ⌝ }
     ensures { λ r. ⌜ foundPlace r ≡ place ⌝ }
 {
     if 0 < place {

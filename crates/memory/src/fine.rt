@@ -2,11 +2,15 @@
 use crate::distinct::names_differ;
 use crate::kinds::is_kind;
 use crate::kinds::kind_codes;
-use crate::kinds::turns_only;
 use crate::names::name_fine;
 use chains::links::held;
 use chains::links::links_of;
 use chains::links::no_ring;
+use facts::kinds::turns_only;
+use facts::limits::MAX_SYSTEMS;
+use facts::limits::NAME_LIMIT;
+use facts::numbers::ACCEPTED;
+use facts::numbers::of_line;
 use model::Enabled;
 use model::Kind;
 use model::Memory;
@@ -20,17 +24,13 @@ ghost use mathlib.Core.Path.{_≡_};
 ghost use mathlib.Core.Bool.{_&&_, _||_};
 ghost use lib.Dec.{eqb, leb};
 ghost use mathlib.Core.List.{List};
-ghost use Rattle.model.specs.Lists.{between};
-ghost use Rattle.model.specs.Limits.{largestNumber};
 ghost use Rattle.model.specs.Memory.{System as SystemOf};
 ghost use Rattle.model.specs.Chain.{noRing};
-ghost use Rattle.model.specs.WellFormed.{offsetsFine, noOffset, turnsFine, operatingFine, enabledFine, memoryFine, wellFormed};
+ghost use Rattle.model.specs.Refusals.{ofLine?};
+ghost use Rattle.model.specs.WellFormed.{offsetsFine, noOffset, turnsFine, ownFine, operatingFine, enabledFine, memoryFine, wellFormed};
 ghost use Rattle.model.specs.Stored.{systemOf, systemsOf, memoryOf, stateOf, memoryShaped, shaped};
 ghost use Rattle.memory.specs.Codes.{codesOf};
-ghost use Rattle.memory.specs.Fine.{aloneFine, storedFine, storedAllFine};
-
-// The largest number with which a line can be refused.
-const LARGEST: u8 = 13;
+ghost use Rattle.memory.specs.Fine.{storedFine, storedAllFine};
 
 fn offsets_fine(t: Vec3) -> bool
     ensures { λ r. ⌜ r ≡ offsetsFine t ⌝ }
@@ -50,9 +50,9 @@ fn turns_fine(t: Turns) -> bool
     (t.u <= 3) & (t.v <= 3) & (t.w <= 3)
 }
 
-// All that is asked of a system apart from its predecessor.
-fn alone_fine(s: System) -> bool
-    ensures { λ r. ⌜ r ≡ aloneFine (systemOf s) ⌝ }
+// What is asked of a system by itself.
+fn own_fine(s: System) -> bool
+    ensures { λ r. ⌜ r ≡ ownFine (systemOf s) ⌝ }
 {
     let name = s.name;
     if !name_fine(name) {
@@ -69,10 +69,10 @@ fn stored_fine(s: System, codes: &[u8]) -> bool
     ensures { λ r. ⌜ ((l : List SystemOf) → codesOf l ≡ now (codes .entry) → r ≡ storedFine l s) ⌝ }
 {
     let name = s.name;
-    if 16 < name.len {
+    if NAME_LIMIT < name.len as usize {
         return false;
     }
-    if !alone_fine(s) {
+    if !own_fine(s) {
         return false;
     }
     let kind = s.kind;
@@ -142,7 +142,7 @@ fn ring_free(m: Memory) -> bool
 pub fn memory_fine(m: Memory) -> bool
     ensures { λ r. ⌜ r ≡ memoryShaped m && memoryFine (memoryOf m) ⌝ }
 {
-    if 16 < m.count {
+    if MAX_SYSTEMS < m.count as usize {
         return false;
     }
     if !typed_fine(m) {
@@ -173,7 +173,7 @@ pub fn state_fine(s: State) -> bool
 
 // The level, and a last error that a line can leave.
 fn values_fine(level: u8, error: u8) -> bool
-    ensures { λ r. ⌜ r ≡ leb level 1 && (eqb error 0 || between 2 largestNumber error) ⌝ }
+    ensures { λ r. ⌜ r ≡ leb level 1 && (eqb error 0 || ofLine? error) ⌝ }
 {
-    (level <= 1) & ((error == 0) | ((2 <= error) & (error <= LARGEST)))
+    (level <= 1) & ((error == ACCEPTED) | of_line(error))
 }

@@ -1,60 +1,25 @@
 // Types of systems by their codes. The codes of a whole memory are laid flat once, so that a test of a place costs one read.
 use chains::links::held;
-use model::Group;
+use facts::kinds::code_of;
+use facts::limits::MAX_SYSTEMS;
 use model::Kind;
 use model::Memory;
 ghost use Prim.Native.Nat.{min};
 ghost use mathlib.Core.Path.{_≡_};
 ghost use mathlib.Core.List.{List};
 ghost use lib.ListN.{take};
-ghost use Rattle.model.specs.Kinds.{ofKind};
+ghost use Rattle.model.specs.Limits.{maxSystems};
 ghost use Rattle.model.specs.Memory.{System};
 ghost use Rattle.model.specs.WellFormed.{isKind};
 ghost use Rattle.model.specs.Stored.{systemsOf};
 ghost use Rattle.memory.specs.Codes.{codesOf};
 
-pub fn code_of(k: Kind) -> u8
-    ensures { λ r. ⌜ r ≡ ofKind k .code ⌝ }
-{
-    match k {
-        Kind::Ksd => 1,
-        Kind::Kst => 2,
-        Kind::Ksw => 3,
-        Kind::Ksb => 4,
-        Kind::Kld => 5,
-    }
-}
-
-pub fn group_of(k: Kind) -> Group
-    ensures { λ r. ⌜ r ≡ ofKind k .group ⌝ }
-{
-    match k {
-        Kind::Ksd => Group::Operating,
-        Kind::Kst => Group::Operating,
-        Kind::Ksw => Group::Operating,
-        Kind::Ksb => Group::Orientational,
-        Kind::Kld => Group::Levelling,
-    }
-}
-
-pub fn turns_only(k: Kind) -> bool
-    ensures { λ r. ⌜ r ≡ ofKind k .turnsOnly ⌝ }
-{
-    match k {
-        Kind::Ksd => false,
-        Kind::Kst => false,
-        Kind::Ksw => false,
-        Kind::Ksb => true,
-        Kind::Kld => false,
-    }
-}
-
 // The codes of a memory's systems, in their order.
-pub fn kind_codes(m: Memory) -> [u8; 16]
-    ensures { λ r. ⌜ take (min (m .count) 16) r ≡ codesOf (systemsOf m) ⌝ }
+pub fn kind_codes(m: Memory) -> [u8; MAX_SYSTEMS]
+    ensures { λ r. ⌜ take (min (m .count) maxSystems) r ≡ codesOf (systemsOf m) ⌝ }
 {
     let count = held(m.count);
-    let mut codes = [0u8; 16];
+    let mut codes = [0u8; MAX_SYSTEMS];
     let mut i = 0;
     while i < count {
         let s = m.systems[i];

@@ -1,4 +1,5 @@
 // Names and texts: the same bytes, and what makes a name legal. A length beyond its array means the whole array.
+use facts::limits::NAME_LIMIT;
 use model::Name;
 use text::names::name_byte;
 use text::names::same_bytes;
@@ -7,17 +8,19 @@ ghost use mathlib.Core.Path.{_≡_};
 ghost use Prim.Native.Nat.{min};
 ghost use mathlib.Core.Bool.{not, _&&_};
 ghost use Rattle.model.specs.Lists.{same};
+ghost use Rattle.model.specs.Limits.{nameLimit};
 ghost use Rattle.model.specs.Words.{legalName, reserved};
 ghost use Rattle.model.specs.Stored.{bytesOf};
 
 // How many bytes a stored name has.
 pub fn clipped(n: u8) -> usize
-    ensures { λ r. ⌜ r ≡ min n 16 ⌝ }
+    ensures { λ r. ⌜ r ≡ min n nameLimit ⌝ }
 {
-    if 16 < n {
-        return 16;
+    let len = n as usize;
+    if NAME_LIMIT < len {
+        return NAME_LIMIT;
     }
-    n as usize
+    len
 }
 
 pub fn same_name(a: Name, b: Name) -> bool
@@ -30,7 +33,7 @@ pub fn same_name(a: Name, b: Name) -> bool
     same_bytes(&x[..m], &y[..n])
 }
 
-// A name's bytes: a capital, then capitals, digits and underscores, 16 in all at most.
+// A name's bytes: a capital, then capitals, digits and underscores, few enough.
 pub fn legal_bytes(t: &[u8]) -> bool
     ensures { λ r. ⌜ r ≡ legalName (now (t .entry)) ⌝ }
 {
@@ -38,10 +41,10 @@ pub fn legal_bytes(t: &[u8]) -> bool
     if n == 0 {
         return false;
     }
-    if 16 < n {
+    if NAME_LIMIT < n {
         return false;
     }
-    if !between(65, 90, t[0]) {
+    if !between(b'A', b'Z', t[0]) {
         return false;
     }
     let mut i = 1;

@@ -4,6 +4,7 @@ use mathlib.Core.Path.{_≡_, refl, sym, ap, _∙_}
 use mathlib.Core.List.{List, [], _∷_, _++_, map}
 use mathlib.Core.Bool.{Bool, true, false, _&&_, _||_}
 use mathlib.Core.Logic.{_⊎_, inl, inr, ⊎-elim}
+use mathlib.Core.Option.{Option, none, some}
 use native.Mathlib.Omega.{arith}
 use native.Mathlib.Decide.{decLt, ℕ-discrete}
 use lib.Dec.{eqb}
@@ -16,6 +17,9 @@ use Rattle.model.specs.Lists.{all, any, least, same, table}
 pub true-false : {A : Type 0} → _≡_ {A = Bool} true false → A
 true-false e = let q : _≡_ {A = ℕ} 0 1 = cc in absurd (omega arith)
 
+pub none-some : {A B : Type 0} {x : A} → _≡_ {A = Option A} none (some x) → B
+none-some e = let q : _≡_ {A = ℕ} 0 1 = cc in absurd (omega arith)
+
 pub and-split : (a b : Bool) → a && b ≡ true → (a ≡ true) × (b ≡ true)
 and-split true b e = (refl, e)
 and-split false b e = true-false (sym e)
@@ -26,6 +30,14 @@ and-join {a} {b} p q = rw (p, q)
 pub and-assoc : (a b c : Bool) → (a && b) && c ≡ a && (b && c)
 and-assoc true b c = refl
 and-assoc false b c = refl
+
+pub and-false : (a : Bool) → a && false ≡ false
+and-false true = refl
+and-false false = refl
+
+pub and-true : (a : Bool) → a && true ≡ a
+and-true true = refl
+and-true false = refl
 
 pub or-split : (a b : Bool) → a || b ≡ true → (a ≡ true) ⊎ (b ≡ true)
 or-split true b e = inl refl

@@ -7,3 +7,4 @@ pub mod Shown  -- the checklist: KEN? and KLN?
 pub mod Under  -- the checklist: a system under the enabled one
 pub mod Saved  -- the checklist: save, switch off, switch on, list
 pub mod Checklist  -- all four
+pub mod Stored  -- demand 3 and the checklist of stored states

@@ -5,11 +5,12 @@ use mathlib.Core.Path.{_≡_}
 use Rattle.model.specs.Base.{ℕ, zero, suc, List, [], _∷_, _++_, map, Bool, true, false, _||_, some, eqb, length, take}
 use Rattle.model.specs.Ascii.{ascii}
 use Rattle.model.specs.Lists.{any, same, oneOf}
+use Rattle.model.specs.Types.{Operating, Orientational, Levelling}
 use Rattle.model.specs.Limits.{maxSystems, bufferLimit}
 use Rattle.model.specs.Kinds.{ofGroup}
 use Rattle.model.specs.Memory.{Memory, State, Ref, nameOf, typeOf, predName, isUser, find, named}
 use Rattle.model.specs.Chain.{hop, chain}
-use Rattle.model.specs.Use.{inGroup}
+use Rattle.model.specs.Use.{operatingPlaces, inGroup}
 use Rattle.model.specs.Request.{Change, Query, Reading, reading, unknown, malformed, beyond, asks, change, list, lastError, define, link, copy, remove, enable, setLevel, save, restore, reset}
 use Rattle.model.specs.Effects.{withError}
 use Rattle.model.specs.Refusals.{ladder}
@@ -19,7 +20,7 @@ use Rattle.model.specs.Trace.{Call, Line, afterCalls, afterLines}
 use Rattle.model.specs.Claims.{applies, triedBefore}
 use Rattle.model.specs.Demand.{Start, startState, noneTaken, Replies, Held, HeldPart, alone, pair, frames}
 
--- ---- (1) KEN? shows one system, or one work and tool pair, for each group
+-- ---- (1) KEN?: for each group one system, or for the operating group a pair
 
 -- a system of the memory, found under its name, with one of these types
 pub record Allowed (m : Memory) (types : List (List ℕ)) (r : Ref) : Type 0 where
@@ -32,14 +33,23 @@ pub data OneOrPair (m : Memory) : List Ref → Type 0 where
   work-and-tool : (w t : Ref) → Allowed m (ascii "ZERO" ∷ ascii "KSW" ∷ []) w → Allowed m (ascii "ZERO" ∷ ascii "KST" ∷ []) t →
       (typeOf (m .systems) w ≡ ascii "ZERO" → typeOf (m .systems) t ≡ ascii "ZERO" → ⊥) → OneOrPair m (w ∷ t ∷ [])
 
+-- the enabled operating systems of a memory: one, or work and tool
+abbrev pub operatingRefs : Memory → List Ref
+operatingRefs m = map (inGroup Operating) (operatingPlaces (m .enabled .operating))
+
+abbrev pub orientationalRef : Memory → Ref
+orientationalRef m = inGroup Orientational (m .enabled .orientational)
+
+abbrev pub levellingRef : Memory → Ref
+levellingRef m = inGroup Levelling (m .enabled .levelling)
+
+-- each group has what it may have enabled, and KEN? shows just that
 pub record OneInEachGroup (st : State) : Type 0 where
-  pub operating : List Ref
-  pub orientational : Ref
-  pub levelling : Ref
-  pub one-or-pair : OneOrPair (st .volatile) operating
-  pub base : Allowed (st .volatile) (ascii "KSB(PI)" ∷ ascii "KSB(USER)" ∷ []) orientational
-  pub level : Allowed (st .volatile) (ascii "KLD(PI)" ∷ ascii "KLD(USER)" ∷ []) levelling
-  pub shown : Replies st (ascii "KEN?") (listing (map (enabledLine (st .volatile .systems)) (operating ++ (orientational ∷ levelling ∷ []))))
+  pub operating : OneOrPair (st .volatile) (operatingRefs (st .volatile))
+  pub orientational : Allowed (st .volatile) (ascii "KSB(PI)" ∷ ascii "KSB(USER)" ∷ []) (orientationalRef (st .volatile))
+  pub levelling : Allowed (st .volatile) (ascii "KLD(PI)" ∷ ascii "KLD(USER)" ∷ []) (levellingRef (st .volatile))
+  pub shown : Replies st (ascii "KEN?") (listing (map (enabledLine (st .volatile .systems))
+      (operatingRefs (st .volatile) ++ (orientationalRef (st .volatile) ∷ levellingRef (st .volatile) ∷ []))))
 
 -- ---- (2) KLN? followed down never meets a ring
 

@@ -16,7 +16,7 @@ use Rattle.model.specs.Image.{accepted}
 use Rattle.model.specs.Machine.{answered, stepped, startFactory, startImage}
 use Rattle.model.specs.Trace.{Call, Line, afterCalls, afterLines}
 
--- [Two lists 1] a start: the factory state, or the state that an accepted image gives
+-- [Two lists 1] a start: from the factory, or from bytes that are accepted as an image
 pub data Start : Type 0 where
   factory-start : Start
   image-start : (bytes : List ℕ) (m : Memory) → accepted bytes ≡ some m → Start
@@ -104,7 +104,7 @@ abbrev pub OperatingDefined : List System → OperatingPart → Type 0
 OperatingDefined l (Single p) = Defined l Ksd p
 OperatingDefined l (Pair w t) = Defined l Ksw w × Defined l Kst t × ((w ≡ 0) × (t ≡ 0) → ⊥)
 
--- [Memory 3; demand 3] the chain of the system at place q reaches its group's fixed system in at most 16 steps
+-- [Memory 3; demand 3] the chain of the system at place q ends, within 16 steps, where its group's chains end
 pub record Reaches (l : List System) (q : ℕ) : Type 0 where
   -- as many links as there are systems on the chain lead to the fixed system, and fewer do not
   pub ends : hop l (length (chain l q)) q ≡ 0

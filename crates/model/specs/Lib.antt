@@ -14,6 +14,7 @@ pub mod Chain
 pub mod Use
 pub mod Words
 pub mod WellFormed
+pub mod Recurrences
 pub mod Request
 pub mod Effects
 pub mod Reply
@@ -26,5 +27,8 @@ pub mod Demand
 pub mod Claims
 pub mod Checklist
 pub mod Removed
+pub mod Sessions
 pub mod Table
 pub mod Stored
+pub mod Histories
+pub mod Examples

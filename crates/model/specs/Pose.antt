@@ -67,7 +67,7 @@ rotOf t = after (times (t .u) quarterX) (after (times (t .v) quarterY) (times (t
 
 -- ---- poses
 
--- [Poses] an offset and a rotation
+-- [Poses] an offset p and a rotation R: what stands at q in the system's own axes stands at p + R·q in those of its predecessor
 pub record Pose : Type 0 where
   pub at : Vec3
   pub rot : Rot

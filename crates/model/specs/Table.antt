@@ -1,49 +1,11 @@
 -- Document 01, "ksrun, and a table to hold": its cases as one statement, the worked example to the byte, and the five tempting points.
 -- Every case goes through the machine's own step, from lines of bytes. The statements only; they are proved in proofs/Table.
 use mathlib.Core.Path.{_≡_}
-use Prim.Native.String.{String}
-use Rattle.model.specs.Base.{ℕ, List, [], _∷_, _++_, take, replicate}
+use Rattle.model.specs.Base.{[], _∷_, _++_}
 use Rattle.model.specs.Ascii.{ascii}
-use Rattle.model.specs.Limits.{bufferLimit}
-use Rattle.model.specs.Memory.{State}
-use Rattle.model.specs.Machine.{Outcome, stepped, writeImage, startFactory}
+use Rattle.model.specs.Machine.{writeImage, startFactory}
 use Rattle.model.specs.Trace.{ksrun}
-
--- the number and the reply of a call
-pub record Answer : Type 0 where
-  pub number : ℕ
-  pub reply : List ℕ
-
-abbrev pub answer : Outcome → Answer
-answer o = record { number = o .number; reply = take (o .count) (o .buffer) }
-
-abbrev pub replies : String → Answer
-replies t = record { number = 0; reply = ascii t }
-
-abbrev pub taken : Answer
-taken = record { number = 0; reply = [] }
-
-abbrev pub number : ℕ → Answer
-number n = record { number = n; reply = [] }
-
--- a lent buffer of so many bytes
-abbrev pub lent : ℕ → List ℕ
-lent n = replicate n 7
-
--- the state after some lines
-unfoldable pub run : State → List String → State
-run st [] = st
-run st (l ∷ ls) = run (stepped st (ascii l) (lent bufferLimit) .state) ls
-
--- the answer to a line that is sent after others, from the factory state
-unfoldable pub then : List String → String → Answer
-then before l = answer (stepped (run startFactory before) (ascii l) (lent bufferLimit))
-
--- fifteen definitions
-abbrev pub fifteen : List String
-fifteen =
-    "KSD A" ∷ "KSD B" ∷ "KSD C" ∷ "KSD D" ∷ "KSD E" ∷ "KSD F" ∷ "KSD G" ∷ "KSD H" ∷ "KSD I" ∷ "KSD J" ∷ "KSD K" ∷ "KSD L" ∷ "KSD M"
-    ∷ "KSD N" ∷ "KSD O" ∷ []
+use Rattle.model.specs.Sessions.{answer, gives, replies, lists, taken, number, lent, fifteen, sixteen, then}
 
 -- [ksrun, the table] one statement of all its cases
 pub record Table : Type 0 where
@@ -57,7 +19,11 @@ pub record Table : Type 0 where
       ≡ replies "Name=A EndCoordinateSystem=ZERO X=0.000000 Y=0.000000 Z=0.000000 U=0.000000 V=90.000000 W=90.000000 Steps=1\n"
   -- −90 is kept and shown as 270
   pub negative-angle-kept : then ("KSD A W -90" ∷ []) "KLS?"
-      ≡ replies "Name=ZERO Type=ZERO X=0.000000 Y=0.000000 Z=0.000000 U=0.000000 V=0.000000 W=0.000000 \nName=PI_BASE Type=KSB(PI) X=0.000000 Y=0.000000 Z=0.000000 U=0.000000 V=0.000000 W=0.000000 \nName=PI_LEVELLING Type=KLD(PI) X=0.000000 Y=0.000000 Z=0.000000 U=0.000000 V=0.000000 W=0.000000 \nName=A Type=KSD X=0.000000 Y=0.000000 Z=0.000000 U=0.000000 V=0.000000 W=270.000000\n"
+      ≡ lists (
+      "Name=ZERO Type=ZERO X=0.000000 Y=0.000000 Z=0.000000 U=0.000000 V=0.000000 W=0.000000 \n"
+      ∷ "Name=PI_BASE Type=KSB(PI) X=0.000000 Y=0.000000 Z=0.000000 U=0.000000 V=0.000000 W=0.000000 \n"
+      ∷ "Name=PI_LEVELLING Type=KLD(PI) X=0.000000 Y=0.000000 Z=0.000000 U=0.000000 V=0.000000 W=0.000000 \n"
+      ∷ "Name=A Type=KSD X=0.000000 Y=0.000000 Z=0.000000 U=0.000000 V=0.000000 W=270.000000\n" ∷ [])
   pub negative-angle-shown : then ("KSD A W -90" ∷ []) "KLT? A"
       ≡ replies "Name=A EndCoordinateSystem=ZERO X=0.000000 Y=0.000000 Z=0.000000 U=0.000000 V=0.000000 W=270.000000 Steps=1\n"
   -- the offset limit, and the digits of a number
@@ -67,13 +33,13 @@ pub record Table : Type 0 where
   pub five-digits : then [] "KSD A X 10000" ≡ number 5
   -- the sixteenth system is taken, the seventeenth is not
   pub sixteenth : then fifteen "KSD P" ≡ taken
-  pub seventeenth : then (fifteen ++ ("KSD P" ∷ [])) "KSD Q" ≡ number 13
+  pub seventeenth : then sixteen "KSD Q" ≡ number 13
   -- a link to itself, of a system that is not in use
   pub link-to-itself : then ("KSD A" ∷ []) "KLN A A" ≡ number 12
   -- C on B on A: when B goes, C is on A
   pub removed-between : then ("KSD A" ∷ "KSD B" ∷ "KSD C" ∷ "KLN B A" ∷ "KLN C B" ∷ "KRM B" ∷ []) "KLN?"
       ≡ replies "ZERO=ZERO \nPI_BASE=HEXAPOD \nPI_LEVELLING=HEXAPOD \nA=ZERO \nC=A\n"
-  pub factory-image : answer (writeImage startFactory (lent bufferLimit)) ≡ record { number = 0; reply = 0x01 ∷ 0x00 ∷ 0x00 ∷ 0x00 ∷ 0x00 ∷ 0x00 ∷ [] }
+  pub factory-image : answer (writeImage startFactory (lent 4096)) ≡ gives (0x01 ∷ 0x00 ∷ 0x00 ∷ 0x00 ∷ 0x00 ∷ 0x00 ∷ [])
 
 -- [ksrun, Tempting] the five mistakes, each with what the machine answers instead
 pub record Tempting : Type 0 where
@@ -102,11 +68,3 @@ pub record Printed : Type 0 where
       ++ ascii "Name=B EndCoordinateSystem=ZERO X=10.500000 Y=2.000000 Z=0.000000 U=0.000000 V=0.000000 W=90.000000 Steps=2\n"))))
   pub refusals : ksrun (ascii "FOO\n\nERR?") ≡ ascii "E 4\nE 4\n4\n"
   pub no-input : ksrun [] ≡ []
-
--- [Errors 1, 2] all as it was; only a number from 2 on sets the last error
-abbrev pub withLevel : ℕ → ℕ → State
-withLevel n e = record { volatile = startFactory .volatile; permanent = startFactory .permanent; level = n; error = e }
-
-pub record Unwritten : Type 0 where
-  pub one : stepped (withLevel 2 5) (ascii "KEN?") (lent 4096) ≡ record { state = withLevel 2 5; number = 1; count = 0; buffer = lent 4096 }
-  pub two : stepped startFactory (ascii "KEN?") (lent 4095) ≡ record { state = withLevel 0 2; number = 2; count = 0; buffer = lent 4095 }

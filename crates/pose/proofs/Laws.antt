@@ -9,24 +9,22 @@ use lib.IntN.{ℤ, pos, negsuc}
 use Rattle.model.specs.Lists.{least}
 use Rattle.model.specs.Pose.{Pose, coord, turned, after, unturned, times, quarterX, quarterY, quarterZ, rotOf, plus, neutral, followed, sameRot, triple, shown}
 use Rattle.pose.specs.Types.{Dir, Px, Nx, Py, Ny, Pz, Nz, Rot, Turns, Vec3}
-use Rattle.pose.specs.Poses.{Rotation}
+use Rattle.pose.specs.Poses.{placed, Rotation}
 use Rattle.pose.specs.Inverse.{undo, minus, inverse}
 use Rattle.model.proofs.Upto.{upto}
 use Rattle.pose.proofs.Turning.{after-assoc, after-unturned, turned-after, turned-plus, turned-origin, plus-assoc, plus-origin, origin-plus, plus-minus, minus-plus}
 use Rattle.pose.proofs.Naming.{same-is, at-turns}
 
--- ---- following on is associative, and the neutral pose is neutral on either side
+-- ---- following on places a point as one pose after the other does; it is associative, and the neutral pose is neutral on either side
+
+pub placed-followed : (p t : Pose) (q : Vec3) → placed (followed p t) q ≡ placed p (placed t q)
+placed-followed p t q =
+    plus-assoc (p .at) (turned (p .rot) (t .at)) (turned (after (p .rot) (t .rot)) q) ∙
+    ap (λ (v : Vec3). plus (p .at) (plus (turned (p .rot) (t .at)) v)) (turned-after (p .rot) (t .rot) q) ∙
+    ap (plus (p .at)) (sym (turned-plus (p .rot) (t .at) (turned (t .rot) q)))
 
 pub follow-assoc : (p q t : Pose) → followed (followed p q) t ≡ followed p (followed q t)
-follow-assoc p q t =
-    λ i.
-    record {
-      at =
-          (plus-assoc (p .at) (turned (p .rot) (q .at)) (turned (after (p .rot) (q .rot)) (t .at)) ∙
-          ap (λ (v : Vec3). plus (p .at) (plus (turned (p .rot) (q .at)) v)) (turned-after (p .rot) (q .rot) (t .at)) ∙
-          ap (plus (p .at)) (sym (turned-plus (p .rot) (q .at) (turned (q .rot) (t .at))))) i;
-      rot = after-assoc (p .rot) (q .rot) (t .rot) i;
-    }
+follow-assoc p q t = λ i. record { at = placed-followed p q (t .at) i; rot = after-assoc (p .rot) (q .rot) (t .rot) i }
 
 pub neutral-left : (p : Pose) → followed neutral p ≡ p
 neutral-left p = λ i. record { at = origin-plus (p .at) i; rot = p .rot }

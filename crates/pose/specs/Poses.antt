@@ -2,12 +2,17 @@
 use mathlib.Core.Path.{_≡_}
 use Prim.Native.Nat.{ℕ, _-_, _^_, _≤_, _<_}
 use lib.IntN.{natAbs}
-use Rattle.model.specs.Pose.{Pose, rotOf}
+use Rattle.model.specs.Pose.{Pose, rotOf, plus, turned}
 use Rattle.pose.specs.Types.{Rot, Turns, Vec3, StoredPose}
 
 -- the pose of the definitions that a pose of the code stands for
 abbrev pub poseOf : StoredPose → Pose
 poseOf p = record { at = p .at; rot = p .rot }
+
+-- what a pose means: where a point q of the system stands in the predecessor's axes (`placed-followed` in proofs/Laws.antt: following on places
+-- a point as the two poses one after the other do)
+abbrev pub placed : Pose → Vec3 → Vec3
+placed p q = plus (p .at) (turned (p .rot) q)
 
 -- each coordinate is within ±h
 pub record Within (h : ℕ) (v : Vec3) : Type 0 where

@@ -1,6 +1,6 @@
 // A pose: where a system stands and how it is turned; and following one pose on from another.
 ghost use mathlib.Core.Path.{_≡_};
-ghost use Rattle.model.specs.Pose.{plus, rotOf, origin, followed};
+ghost use Rattle.model.specs.Pose.{plus, rotOf, origin, neutral, followed};
 ghost use Rattle.pose.specs.Poses.{poseOf, Within, reach};
 use model::Dir;
 use model::Rot;
@@ -10,6 +10,7 @@ use model::Vec3;
 pub mod rotation;
 mod tables;
 
+// A point q of the system, as a column, stands at `at + rot·q` in the predecessor's axes.
 pub struct Pose {
     pub at: Vec3,
     pub rot: Rot,
@@ -38,21 +39,30 @@ impl Pose {
         },
     };
 
+    // The constant, with what is promised of it.
+    pub fn neutral() -> Pose
+        ensures { λ r. ⌜ poseOf r ≡ neutral ⌝ }
+    {
+        Pose::NEUTRAL
+    }
+
     // These turns, with no offset.
     pub fn of_turns(turns: Turns) -> Pose
         ensures { λ r. ⌜ poseOf r ≡ record { at = origin; rot = rotOf turns } ⌝ }
     {
-        let neutral = Pose::NEUTRAL;
-        let at = neutral.at;
-        Pose::of(at, turns)
+        let mut pose = Pose::neutral();
+        let rot = rotation::named(turns);
+        pose.rot = rot;
+        pose
     }
 
-    // A system's own pose.
+    // A system's own pose: its turns, and then its offset.
     pub fn of(offset: Vec3, turns: Turns) -> Pose
         ensures { λ r. ⌜ poseOf r ≡ record { at = offset; rot = rotOf turns } ⌝ }
     {
-        let rot = rotation::named(turns);
-        Pose { at: offset, rot }
+        let mut pose = Pose::of_turns(turns);
+        pose.at = offset;
+        pose
     }
 
     // The predecessor's pose, and a system's own pose followed on from it.

@@ -1,23 +1,22 @@
 -- Laws of written texts and of their lengths.
-use Prim.Native.Nat.{ℕ, zero, suc, _+_, _-_, _/_, _%_, _^_, _≤_, _<_}
+use Prim.Native.Nat.{ℕ, suc, _+_, _-_, _*_, _/_, _%_, _^_, _≤_, _<_}
 use mathlib.Core.Path.{_≡_, refl, sym, ap, _∙_}
 use mathlib.Core.List.{List, [], _∷_, _++_, append-assoc, append-nil}
-use mathlib.Core.Bool.{Bool, true, false, cond, false≢true}
-use native.Mathlib.Nat.{add-zero, add-comm, suc-add, div-div-eq-div-mul}
+use mathlib.Core.Bool.{true, false, false≢true}
+use native.Mathlib.Nat.{add-zero, div-lt-iff-lt-mul}
 use native.Mathlib.Numerals.{add-one}
 use native.Mathlib.Omega.{arith}
 use lib.IntN.{ℤ, pos, negsuc, natAbs}
 use lib.Signed.{ltZ}
-use lib.Dec.{ltb}
 use lib.ListN.{length, take, drop, getD, set, length-set, length-append, length-take, length-drop, drop-of-length-le}
-use lib.Pow.{pow-add}
 use lib.Seq.{sets, sets-eq, take-all, drop-cons, drop-drop}
-use borrow.Author.Tests.{ltb-true, lt-ltb, le-ltb}
+use borrow.Author.Tests.{ltb-true, le-ltb}
 use borrow.Rule.Slice.PartMut.{putMid}
 use Rattle.model.specs.Lists.{joined}
 use Rattle.model.specs.Limits.{million, decimals}
 use Rattle.model.specs.Machine.{written}
 use Rattle.model.specs.Reply.{lastDigits, decimal, value}
+use Rattle.model.proofs.Digits.{length-digits, digits-split, decimal-lead, decimal-short}
 use Rattle.print.specs.Over.{over, Wrote, millionths}
 
 -- ---- one text over a part
@@ -90,49 +89,17 @@ wrote-part {t} {y} b at h w =
 pub rest-room : (b : List ℕ) (at n : ℕ) → at + n ≤ length b → n ≤ length (take (length b - at) (drop at b))
 rest-room b at n h = rw (length-take, length-drop) (omega arith)
 
--- ---- digits
+-- ---- digits: the leading ones, then the last k
 
-pub length-digits : (k n : ℕ) → length (lastDigits k n) ≡ k
-unfolding lastDigits
-length-digits zero n = refl
-length-digits (suc k) n = ap suc (length-digits k n)
+module _ (k n : ℕ) {xs ys zs : List ℕ} {at i r : ℕ} where
+  pub wrote-digits : (j : ℕ) → Wrote (lastDigits j (n / 10 ^ k)) xs at ys i → Wrote (lastDigits k n) ys i zs r → Wrote (lastDigits (j + k) n) xs at zs r
+  wrote-digits j a b = rw (digits-split j k n) (wrote-then a b)
 
--- the digits before the last k are those of the quotient
-digits-split : (j k n : ℕ) → lastDigits (j + k) n ≡ lastDigits j (n / 10 ^ k) ++ lastDigits k n
-unfolding lastDigits
-digits-split zero k n = let e : 0 + k ≡ k = omega arith in ap (λ (m : ℕ). lastDigits m n) e
-digits-split (suc j) k n =
-    let e : n / 10 ^ k / 10 ^ j ≡ n / 10 ^ (j + k) = div-div-eq-div-mul n (10 ^ k) (10 ^ j) ∙ ap (λ (m : ℕ). n / m) (sym (pow-add 10 k j) ∙ ap (λ (m : ℕ). 10 ^ m) (add-comm k j)) in
-    rw (suc-add j k, e) (ap (λ (l : List ℕ). (48 + n / 10 ^ (j + k) % 10) ∷ l) (digits-split j k n))
+  pub wrote-lead : 10 ^ k ≤ n → Wrote (decimal (n / 10 ^ k)) xs at ys i → Wrote (lastDigits k n) ys i zs r → Wrote (decimal n) xs at zs r
+  wrote-lead h a b = rw (decimal-lead k n h) (wrote-then a b)
 
-pub wrote-digits : (j k n : ℕ) {xs ys zs : List ℕ} {at i r : ℕ} → Wrote (lastDigits j (n / 10 ^ k)) xs at ys i → Wrote (lastDigits k n) ys i zs r → Wrote (lastDigits (j + k) n) xs at zs r
-wrote-digits j k n a b = rw (digits-split j k n) (wrote-then a b)
-
--- ---- numbers without leading zeros
-
-module _ (n : ℕ) where
-  pub decimal-one : n < 10 → decimal n ≡ lastDigits 1 n
-  unfolding decimal
-  decimal-one h = rw (lt-ltb n 10 h)
-
-  pub decimal-two : 10 ≤ n → n < 100 → decimal n ≡ lastDigits 2 n
-  unfolding decimal
-  decimal-two g h = rw (le-ltb n 10 g, lt-ltb n 100 h)
-
-  pub decimal-three : 100 ≤ n → n < 1000 → decimal n ≡ lastDigits 3 n
-  unfolding decimal
-  decimal-three g h = rw (le-ltb n 10 (omega arith), le-ltb n 100 g, lt-ltb n 1000 h)
-
-  pub decimal-four : 1000 ≤ n → n < 10000 → decimal n ≡ lastDigits 4 n
-  unfolding decimal
-  decimal-four g h = rw (le-ltb n 10 (omega arith), le-ltb n 100 (omega arith), le-ltb n 1000 g, lt-ltb n 10000 h)
-
-  pub decimal-five : 10000 ≤ n → decimal n ≡ lastDigits 5 n
-  unfolding decimal
-  decimal-five g = rw (le-ltb n 10 (omega arith), le-ltb n 100 (omega arith), le-ltb n 1000 (omega arith), le-ltb n 10000 g)
-
-pub length-decimal : (k n : ℕ) → decimal n ≡ lastDigits k n → length (decimal n) ≡ k
-length-decimal k n e = ap length e ∙ length-digits k n
+pub length-lead : (k n : ℕ) → 10 ^ k ≤ n → length (decimal n) ≡ length (decimal (n / 10 ^ k)) + k
+length-lead k n h = rw (decimal-lead k n h, length-append, length-digits k n)
 
 -- ---- values
 
@@ -153,17 +120,10 @@ length-millionths m =
 
 -- ---- the longest texts
 
-cond-le : (t : Bool) (a b k : ℕ) → a ≤ k → b ≤ k → cond t a b ≤ k
-cond-le true a b k g h = g
-cond-le false a b k g h = h
-
-pub decimal-short : (n : ℕ) → length (decimal n) ≤ 5
-unfolding decimal
-decimal-short n =
-    rw length-digits
-    (cond-le (ltb n 10) 1 _ 5 (omega arith)
-    (cond-le (ltb n 100) 2 _ 5 (omega arith) (cond-le (ltb n 1000) 3 _ 5 (omega arith) (cond-le (ltb n 10000) 4 5 5 (omega arith) (omega arith)))))
-
-pub value-short : (z : ℤ) → length (value z) ≤ 13
-value-short (pos n) = omega (arith, ap length (value-above (pos n) (le-ltb n 0 (omega arith))), length-millionths n, decimal-short (n / million))
-value-short (negsuc n) = omega (arith, ap length (value-below (negsuc n) refl), length-millionths (suc n), decimal-short (suc n / million))
+-- a value of at most k digits before the point
+pub value-short : (k : ℕ) (z : ℤ) → 1 ≤ k → natAbs z < 10 ^ k * million → length (value z) ≤ k + 8
+value-short k z l h = omega (arith, signed z, length-millionths (natAbs z), decimal-short k (natAbs z / million) l (div-lt-iff-lt-mul (omega arith) .1 h))
+  where
+    signed : (z : ℤ) → length (value z) ≤ suc (length (millionths (natAbs z)))
+    signed (pos n) = omega (arith, ap length (value-above (pos n) (le-ltb n 0 (omega arith))))
+    signed (negsuc n) = omega (arith, ap length (value-below (negsuc n) refl))

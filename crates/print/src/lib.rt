@@ -1,5 +1,6 @@
 // Texts and numbers written into a lent part, in place and in one pass. A writer takes the place where its text is to begin and returns the place
 // after it, so that writers follow on one another; what they leave in the whole part is `Wrote` of specs/.
+use facts::limits::MILLION;
 use model::Name;
 use signed::magnitude;
 ghost use mathlib.Core.List.{_∷_, []};
@@ -43,12 +44,12 @@ pub fn put_byte(out: &mut [u8], at: usize, b: u8) -> usize
     at + 1
 }
 
-// The last digit, the last two, three, six: divisors are constants, so that no division is left in the machine code.
+// The last digit, the last two, three, four, six: divisors are constants, so that no division is left in the machine code.
 fn put_one(out: &mut [u8], at: usize, n: u64) -> usize
     requires { ⌜ at + 1 ≤ length (now out) ⌝ }
     ensures { λ r. ⌜ Wrote (lastDigits 1 n) (now (out .entry)) at (now (out .exit)) r ⌝ }
 {
-    put_byte(out, at, 48 + (n % 10) as u8)
+    put_byte(out, at, b'0' + (n % 10) as u8)
 }
 
 fn put_two(out: &mut [u8], at: usize, n: u64) -> usize
@@ -67,6 +68,14 @@ fn put_three(out: &mut [u8], at: usize, n: u64) -> usize
     put_two(out, i, n)
 }
 
+fn put_four(out: &mut [u8], at: usize, n: u64) -> usize
+    requires { ⌜ at + 4 ≤ length (now out) ⌝ }
+    ensures { λ r. ⌜ Wrote (lastDigits 4 n) (now (out .entry)) at (now (out .exit)) r ⌝ }
+{
+    let i = put_two(out, at, n / 100);
+    put_two(out, i, n)
+}
+
 fn put_six(out: &mut [u8], at: usize, n: u64) -> usize
     requires { ⌜ at + 6 ≤ length (now out) ⌝ }
     ensures { λ r. ⌜ Wrote (lastDigits 6 n) (now (out .entry)) at (now (out .exit)) r ⌝ }
@@ -75,9 +84,9 @@ fn put_six(out: &mut [u8], at: usize, n: u64) -> usize
     put_three(out, i, n)
 }
 
-// Without leading zeros.
-pub fn put_decimal(out: &mut [u8], at: usize, n: u64) -> usize
-    requires { ⌜ at + length (decimal n) ≤ length (now out) ⌝ }
+// Without leading zeros: up to four digits.
+fn put_short(out: &mut [u8], at: usize, n: u64) -> usize
+    requires { ⌜ (n < 10 ^ 4) × (at + length (decimal n) ≤ length (now out)) ⌝ }
     ensures { λ r. ⌜ Wrote (decimal n) (now (out .entry)) at (now (out .exit)) r ⌝ }
 {
     if n < 10 {
@@ -89,12 +98,30 @@ pub fn put_decimal(out: &mut [u8], at: usize, n: u64) -> usize
     if n < 1000 {
         return put_three(out, at, n);
     }
+    put_four(out, at, n)
+}
+
+// Without leading zeros: all but the last four digits first, as many as there are.
+fn put_long(out: &mut [u8], at: usize, n: u64) -> usize
+    requires { ⌜ at + length (decimal n) ≤ length (now out) ⌝ }
+    ensures { λ r. ⌜ Wrote (decimal n) (now (out .entry)) at (now (out .exit)) r ⌝ }
+{
     if n < 10000 {
-        let i = put_one(out, at, n / 1000);
-        return put_three(out, i, n);
+        return put_short(out, at, n);
     }
-    let i = put_two(out, at, n / 1000);
-    put_three(out, i, n)
+    let i = put_long(out, at, n / 10000);
+    put_four(out, i, n)
+}
+
+// Every whole number without leading zeros. Up to four digits are tried first, outside the recursion, so that they can be written where they are asked for.
+pub fn put_decimal(out: &mut [u8], at: usize, n: u64) -> usize
+    requires { ⌜ at + length (decimal n) ≤ length (now out) ⌝ }
+    ensures { λ r. ⌜ Wrote (decimal n) (now (out .entry)) at (now (out .exit)) r ⌝ }
+{
+    if n < 10000 {
+        return put_short(out, at, n);
+    }
+    put_long(out, at, n)
 }
 
 // m millionths with six decimals.
@@ -102,9 +129,9 @@ fn put_millionths(out: &mut [u8], at: usize, m: u64) -> usize
     requires { ⌜ at + length (millionths m) ≤ length (now out) ⌝ }
     ensures { λ r. ⌜ Wrote (millionths m) (now (out .entry)) at (now (out .exit)) r ⌝ }
 {
-    let i = put_decimal(out, at, m / 1000000);
+    let i = put_decimal(out, at, m / MILLION);
     let j = put_byte(out, i, b'.');
-    put_six(out, j, m % 1000000)
+    put_six(out, j, m % MILLION)
 }
 
 // z millionths with six decimals, and a minus only below zero.

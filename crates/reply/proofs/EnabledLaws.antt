@@ -8,14 +8,14 @@ use native.Mathlib.Decide.{decLt}
 use lib.ListN.{length, getD, length-append}
 use Rattle.model.specs.Lists.{joined}
 use Rattle.model.specs.Memory.{System, Ref}
-use Rattle.model.specs.Stored.{systemOf, systemsOf, memoryOf}
+use Rattle.model.specs.Stored.{systemOf, systemsOf, memoryOf, FineMemory}
 use Rattle.model.specs.Use.{operatingPlaces, inGroup, enabledRefs}
 use Rattle.model.specs.Request.{enabledOnes}
 use Rattle.model.specs.Reply.{listing, enabledLine, listed}
 use Rattle.model.proofs.Memories.Fine.{Placed, PartPlaced, fine-of}
 use Rattle.chains.proofs.Copies.{unset}
 use Rattle.reply.specs.Types.{Kind, Operating, Orientational, Levelling, Enabled, OperatingPart, Single, Pair, StoredMemory}
-use Rattle.reply.specs.Lines.{Ready, further, enabledText}
+use Rattle.reply.specs.Lines.{further, enabledText}
 use Rattle.reply.specs.EnabledText.{firstPlace, toolPlace, pair?, toolText, groupsText}
 use Rattle.reply.proofs.StoredLaws.{count-is}
 use Rattle.reply.proofs.TurnLaws.{enabled-turn}
@@ -59,33 +59,33 @@ parts line e (Pair w t) a b o v ea eb eo ev =
 
 -- ---- of a well-formed stored memory
 
-module _ (m : StoredMemory) {buffer : List ℕ} (ready : Ready m buffer) (long : length (m .systems) ≡ 16) where
+module _ (m : StoredMemory) (ready : FineMemory m) (long : length (m .systems) ≡ 16) where
   placed-within : (k : Kind) (p : ℕ) → Placed (systemsOf m) k p → p ≤ m .count
   placed-within k p f = go (decLt 0 p)
     where
       go : Dec (0 < p) → p ≤ m .count
-      go (yes h) = omega (arith, f h .0, count-is m (ready .shaped) long)
+      go (yes h) = omega (arith, f h .0, count-is m (ready .shape) long)
       go (no h) = omega arith
 
   pub first-within : firstPlace (m .enabled .operating) ≤ m .count
-  first-within = go (m .enabled .operating) (fine-of (memoryOf m) (ready .fine) .enabled .operating)
+  first-within = go (m .enabled .operating) (fine-of (memoryOf m) (ready .formed) .enabled .operating)
     where
       go : (part : OperatingPart) → PartPlaced (systemsOf m) part → firstPlace part ≤ m .count
       go (Single p) f = placed-within _ p f
       go (Pair w t) f = placed-within _ w (f .0)
 
   pub tool-within : toolPlace (m .enabled .operating) ≤ m .count
-  tool-within = go (m .enabled .operating) (fine-of (memoryOf m) (ready .fine) .enabled .operating)
+  tool-within = go (m .enabled .operating) (fine-of (memoryOf m) (ready .formed) .enabled .operating)
     where
       go : (part : OperatingPart) → PartPlaced (systemsOf m) part → toolPlace part ≤ m .count
       go (Single p) f = omega arith
       go (Pair w t) f = placed-within _ t (f .1)
 
   pub orientational-within : m .enabled .orientational ≤ m .count
-  orientational-within = placed-within _ (m .enabled .orientational) (fine-of (memoryOf m) (ready .fine) .enabled .orientational)
+  orientational-within = placed-within _ (m .enabled .orientational) (fine-of (memoryOf m) (ready .formed) .enabled .orientational)
 
   pub levelling-within : m .enabled .levelling ≤ m .count
-  levelling-within = placed-within _ (m .enabled .levelling) (fine-of (memoryOf m) (ready .fine) .enabled .levelling)
+  levelling-within = placed-within _ (m .enabled .levelling) (fine-of (memoryOf m) (ready .formed) .enabled .levelling)
 
   abbrev pub storedAt : ℕ → System
   storedAt p = systemOf (getD (m .systems) (p - 1) unset)
@@ -96,5 +96,5 @@ module _ (m : StoredMemory) {buffer : List ℕ} (ready : Ready m buffer) (long :
   unfolding listed enabledRefs
   enabled-whole =
       let e = m .enabled in
-      let turn = enabled-turn m (ready .shaped) long in
+      let turn = enabled-turn m (ready .shape) long in
       parts (enabledLine (systemsOf m)) e (e .operating) _ _ _ _ (turn Operating _ first-within) (turn Operating _ tool-within) (turn Orientational _ orientational-within) (turn Levelling _ levelling-within)

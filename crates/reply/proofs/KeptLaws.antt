@@ -11,10 +11,9 @@ use Rattle.model.specs.declared.Dir.the-variants.{Px}
 use Rattle.model.specs.Pose.{origin}
 use Rattle.model.specs.Memory.{System}
 use Rattle.chains.specs.declared.frames.Reached.{Reached}
-use Rattle.chains.specs.Frames.{framed}
-use Rattle.chains.specs.Walk.{walkOf, walked, atFixed, KnownUpTo}
+use Rattle.chains.specs.Walk.{walkOf, walked, atFixed}
 use Rattle.chains.proofs.Laid.{framed-length}
-use Rattle.chains.proofs.Reaching.{walked-fixed, pred-there}
+use Rattle.chains.proofs.Reaching.{UserPlace, walked-fixed, pred-there}
 use Rattle.reply.specs.Types.{StoredMemory}
 use Rattle.reply.proofs.ReachLaws.{FlatOf, can-walk}
 use Rattle.reply.proofs.StoredLaws.{few}
@@ -44,26 +43,21 @@ kept-on {l} {known} {i} {r} k b e = record { room = length-set known (i + 1) r �
         rw z (ap walkOf (getD-set-same known (i + 1) r nowhere (omega (arith, k .room))) ∙ e)
     go j h (no y) = ap walkOf (getD-set-other known (i + 1) j r nowhere (λ z. omega arith)) ∙ k .each j (omega arith)
 
--- ---- the predecessor of system i
+-- ---- the numbers laid flat
 
-module _ {m : StoredMemory} {buffer preds : List ℕ} {offsets : List ℤ} {turns : List ℕ} (flat : FlatOf m buffer preds offsets turns) where
+module _ {m : StoredMemory} {preds : List ℕ} {offsets : List ℤ} {turns : List ℕ} (flat : FlatOf m preds offsets turns) where
   abbrev ps : List ℕ
   ps = take (m .count) preds
 
   pub held : m .count ≤ 16
-  held = few m (flat .good .shaped) (flat .long)
+  held = few m (flat .good .shape) (flat .long)
 
   pub taken : m .count ≡ length ps
   taken = omega (arith, held, flat .many, length-take (m .count) preds)
 
-  module _ {i : ℕ} (h : i < m .count) where
-    pred-here : getD ps i 0 ≡ getD preds i 0
-    pred-here = getD-take (m .count) preds i 0 h
-
-    pub pred-kept : getD preds i 0 < 17
-    pred-kept =
-        let n = framed-length offsets turns ps in
-        omega (arith, pred-here, pred-there offsets turns ps (can-walk flat) (suc i) i refl (omega (arith, n, taken)), n, taken, held)
-
-    pub known-pred : {known : List Reached} → Kept (framed offsets turns ps) known i → KnownUpTo (framed offsets turns ps) i (getD ps i 0) (walkOf (getD known (getD preds i 0) nowhere))
-    known-pred k = rw pred-here (k .each (getD preds i 0))
+  -- the predecessor of a system that is there is one of those that can be kept
+  pub pred-kept : {i : ℕ} → i < m .count → getD preds i 0 < 17
+  pred-kept {i} h =
+      let n = framed-length offsets turns ps in
+      let u : UserPlace offsets turns ps (suc i) i = record { laid = can-walk flat; is = refl; there = omega (arith, n, taken) } in
+      omega (arith, getD-take (m .count) preds i 0 h, pred-there u, n, taken, held)

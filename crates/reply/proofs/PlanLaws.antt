@@ -1,16 +1,17 @@
 -- How each list of a well-formed stored memory is made up.
-use Prim.Native.Nat.{ℕ}
+use Prim.Native.Nat.{ℕ, _≤_}
 use mathlib.Core.Path.{_≡_, refl, _∙_}
 use mathlib.Core.List.{List, [], map}
 use native.Mathlib.Omega.{arith}
 use lib.ListN.{length}
+use Rattle.model.specs.Limits.{bufferLimit}
 use Rattle.model.specs.Memory.{System, Ref, userRef}
-use Rattle.model.specs.Stored.{systemsOf, memoryOf}
+use Rattle.model.specs.Stored.{systemsOf, memoryOf, FineMemory}
 use Rattle.model.specs.Request.{Query, systemsAll, links, resultants}
 use Rattle.model.specs.Reply.{listing, everySystem, systemLine, linkLine, resultantLine, listed}
 use Rattle.model.proofs.Open.{definitions-open}
 use Rattle.reply.specs.Types.{StoredMemory}
-use Rattle.reply.specs.Lines.{Ready, fixedLines}
+use Rattle.reply.specs.Lines.{fixedLines}
 use Rattle.reply.proofs.ListLaws.{Plan, list-of}
 use Rattle.reply.proofs.ShortLaws.{listed-short}
 use Rattle.reply.proofs.StoredLaws.{count-is}
@@ -32,13 +33,13 @@ fixed-resultants : (l : List System) → fixedLines (resultantLine l) ≡ fixedL
 unfolding definitions-open
 fixed-resultants l = refl
 
-module _ (m : StoredMemory) {b : List ℕ} (ready : Ready m b) (long : length (m .systems) ≡ 16) where
+module _ (m : StoredMemory) (ready : FineMemory m) (b : List ℕ) (room : bufferLimit ≤ length b) (long : length (m .systems) ≡ 16) where
   plan : (q : Query) (line : List System → Ref → List ℕ) → listed (memoryOf m) q ≡ listing (map (line (systemsOf m)) (everySystem (systemsOf m)))
       → fixedLines (line (systemsOf m)) ≡ fixedLines (line []) → Plan (listed (memoryOf m) q) (fixedLines (line [])) (lineAt line m) (m .count) b
   plan q line e f =
       record {
-        whole = e ∙ list-of line (systemsOf m) (m .count) f (count-is m (ready .shaped) long);
-        fits = omega (arith, ready .room, listed-short (memoryOf m) (ready .fine) q);
+        whole = e ∙ list-of line (systemsOf m) (m .count) f (count-is m (ready .shape) long);
+        fits = omega (arith, room, listed-short (memoryOf m) (ready .formed) q);
       }
 
   pub systems-plan : Plan (listed (memoryOf m) systemsAll) (fixedLines (systemLine [])) (lineAt systemLine m) (m .count) b

@@ -9,7 +9,7 @@ use Rattle.model.specs.Kinds.{ofKind}
 use Rattle.model.specs.Memory.{System, Memory, Ref, named, systemAt, nameOf, fixedRef, userRef}
 use Rattle.model.specs.Request.{resultantOf}
 use Rattle.model.specs.Reply.{listing, resultantLine, listed}
-use Rattle.model.specs.Stored.{bytesOf, systemsOf, memoryOf}
+use Rattle.model.specs.Stored.{bytesOf, systemsOf, memoryOf, FineMemory}
 use Rattle.model.proofs.Open.{definitions-open}
 use Rattle.pose.specs.Poses.{Within, reach}
 use Rattle.chains.specs.Flat.{predsOf, LinksOf}
@@ -19,7 +19,7 @@ use Rattle.chains.proofs.Copies.{unset}
 use Rattle.chains.proofs.Reaching.{resultant-within}
 use Rattle.chains.proofs.Ready.{walkable, ready, ready-at, ready-walk}
 use Rattle.reply.specs.Types.{Group, StoredMemory}
-use Rattle.reply.specs.Lines.{Ready, resultantText}
+use Rattle.reply.specs.Lines.{resultantText}
 use Rattle.reply.specs.Reached.{reachedText, refAt}
 use Rattle.reply.proofs.StoredLaws.{few, count-is, stands-at}
 
@@ -28,6 +28,10 @@ unfolding resultantLine nameOf resultantText
 line-at l i = refl
 
 -- ---- which system a place is
+
+pub ref-place : (l : List System) (g : Group) (p : ℕ) → refAt l g p .place ≡ p
+ref-place l g zero = refl
+ref-place l g (suc k) = refl
 
 pub ref-fixed : (l : List System) (g : Group) (p : ℕ) → p ≡ 0 → resultantLine l (refAt l g p) ≡ resultantLine [] (fixedRef g)
 unfolding definitions-open
@@ -44,8 +48,8 @@ resultant-named m a r e = rw e
 
 -- ---- a well-formed memory, and its numbers laid flat
 
-pub record FlatOf (m : StoredMemory) (buffer preds : List ℕ) (offsets : List ℤ) (turns : List ℕ) : Type 0 where
-  pub good : Ready m buffer
+pub record FlatOf (m : StoredMemory) (preds : List ℕ) (offsets : List ℤ) (turns : List ℕ) : Type 0 where
+  pub good : FineMemory m
   pub long : length (m .systems) ≡ 16
   pub many : length preds ≡ 16
   pub links : take (m .count) preds ≡ predsOf (systemsOf m)
@@ -53,24 +57,24 @@ pub record FlatOf (m : StoredMemory) (buffer preds : List ℕ) (offsets : List �
   pub wide : length offsets ≡ 48
   pub broad : length turns ≡ 48
 
-pub flat-of : (m : StoredMemory) {buffer : List ℕ} {preds : List ℕ} {offsets : List ℤ} {turns : List ℕ} {n : ℕ}
-    → Ready m buffer → length (m .systems) ≡ 16 → LinksOf (systemsOf m) preds n → length preds ≡ 16
-    → framed offsets turns (predsOf (systemsOf m)) ≡ framesOf (systemsOf m) → length offsets ≡ 48 → length turns ≡ 48 → FlatOf m buffer preds offsets turns
+pub flat-of : (m : StoredMemory) {preds : List ℕ} {offsets : List ℤ} {turns : List ℕ} {n : ℕ}
+    → FineMemory m → length (m .systems) ≡ 16 → LinksOf (systemsOf m) preds n → length preds ≡ 16
+    → framed offsets turns (predsOf (systemsOf m)) ≡ framesOf (systemsOf m) → length offsets ≡ 48 → length turns ≡ 48 → FlatOf m preds offsets turns
 flat-of m {preds = preds} {n = n} good long links many frames wide broad =
     let e : n ≡ m .count =
-    omega (arith, links .few, length-take n preds, ap length (links .links), length-map (systemsOf m) (λ (s : System). s .pred), count-is m (good .shaped) long) in
+    omega (arith, links .few, length-take n preds, ap length (links .links), length-map (systemsOf m) (λ (s : System). s .pred), count-is m (good .shape) long) in
     record { good = good; long = long; many = many; links = rw e at (links .links); frames = frames; wide = wide; broad = broad }
 
-module _ {m : StoredMemory} {buffer preds : List ℕ} {offsets : List ℤ} {turns : List ℕ} (flat : FlatOf m buffer preds offsets turns) where
+module _ {m : StoredMemory} {preds : List ℕ} {offsets : List ℤ} {turns : List ℕ} (flat : FlatOf m preds offsets turns) where
   can : Walkable (systemsOf m)
-  can = walkable (memoryOf m) (flat .good .fine)
+  can = walkable (memoryOf m) (flat .good .formed)
 
   as-many : length (systemsOf m) ≡ m .count
-  as-many = count-is m (flat .good .shaped) (flat .long)
+  as-many = count-is m (flat .good .shape) (flat .long)
 
   pub can-walk : Laid offsets turns (take (m .count) preds)
   can-walk =
-      let f = few m (flat .good .shaped) (flat .long) in
+      let f = few m (flat .good .shape) (flat .long) in
       ready (systemsOf m) can offsets turns (take (m .count) preds) (flat .links) (flat .frames) (omega (arith, as-many, flat .wide)) (omega (arith, as-many, flat .broad))
 
   pub deep-enough : (q : ℕ) → q ≤ m .count → Enough (framed offsets turns (take (m .count) preds)) q 16
@@ -89,5 +93,5 @@ module _ {m : StoredMemory} {buffer preds : List ℕ} {offsets : List ℤ} {turn
     reached-line =
         let s = getD (m .systems) i unset in
         line-at (systemsOf m) i
-        ∙ ap (λ (t : System). reachedText (t .name) (ofKind (t .kind) .group) (walked (systemsOf m) (suc i))) (stands-at m (flat .good .shaped) (flat .long) i h)
+        ∙ ap (λ (t : System). reachedText (t .name) (ofKind (t .kind) .group) (walked (systemsOf m) (suc i))) (stands-at m (flat .good .shape) (flat .long) i h)
         ∙ ap (λ (v : Walk). reachedText (bytesOf (s .name)) (ofKind (s .kind) .group) v) (sym reached)

@@ -1,48 +1,67 @@
 -- Every reply of a well-formed memory is shorter than the least lent buffer.
 use Prim.Native.Nat.{ℕ, zero, suc, _+_, _*_, _≤_, _<_}
 use mathlib.Core.Path.{_≡_}
-use mathlib.Core.Bool.{true, not, _&&_}
+use mathlib.Core.Bool.{true, _&&_}
 use mathlib.Core.List.{List, [], _∷_, _++_, map, append-nil}
 use native.Mathlib.Omega.{arith}
 use native.Mathlib.Decide.{decLt}
 use borrow.Author.Tests.{leb-true}
 use lib.Dec.{leb}
-use lib.IntN.{pos}
+use lib.IntN.{ℤ, pos, natAbs}
 use lib.ListN.{length, length-append}
 use Rattle.model.specs.Lists.{all, joined}
-use Rattle.model.specs.Limits.{nameLimit, quarterTurn, bufferLimit}
+use Rattle.model.specs.Limits.{nameLimit, quarterTurn, offsetLimit, bufferLimit}
 use Rattle.model.specs.Kinds.{ofKind, ofGroup}
-use Rattle.model.specs.Words.{capital, nameByte, legalName, reserved}
+use Rattle.model.specs.Words.{capital, nameByte, legalName}
 use Rattle.model.specs.Pose.{shown}
 use Rattle.model.specs.Memory.{System, Memory, Ref, fixedRef, userRef, systemAt, nameOf, typeOf, predName, named}
 use Rattle.model.specs.Chain.{steps, resultant}
 use Rattle.model.specs.Use.{operatingPlaces, inGroup, enabledRefs}
-use Rattle.model.specs.WellFormed.{offsetsFine, turnsFine, memoryFine}
+use Rattle.model.specs.WellFormed.{memoryFine}
 use Rattle.model.specs.Request.{Query, enabledOnes, systemsAll, links, resultants, resultantOf}
-use Rattle.model.specs.Reply.{sixValues, listing, everySystem, enabledLine, linkLine, systemLine, resultantLine, listed}
+use Rattle.model.specs.Reply.{value, degrees, sixValues, listing, everySystem, enabledLine, linkLine, systemLine, resultantLine, listed}
 use Rattle.model.proofs.Basics.{and-split}
-use Rattle.model.proofs.Memories.Fine.{Systems, ownFine, fine-of, blank-beyond}
-use Rattle.print.proofs.Laws.{value-short, decimal-short}
+use Rattle.model.proofs.Memories.Fine.{Systems, own-of, fine-of, blank-beyond}
+use Rattle.model.proofs.Memories.Named.{named-place, place-within}
+use Rattle.pose.specs.Poses.{Within, Quarters}
+use Rattle.pose.proofs.Bounds.{within-more}
+use Rattle.pose.proofs.Naming.{shown-quarters}
+use Rattle.chains.specs.Walk.{farthest, Walkable}
+use Rattle.chains.proofs.Reaching.{few-steps, resultant-far}
+use Rattle.chains.proofs.Ready.{walkable}
+use Rattle.model.proofs.Digits.{decimal-short}
+use Rattle.print.proofs.Laws.{value-short}
 use Rattle.reply.specs.Types.{Vec3, Turns, Kind, Ksd, Kst, Ksw, Ksb, Kld, Group, Operating, Orientational, Levelling, Enabled, OperatingPart, Single, Pair}
 use Rattle.reply.specs.Lines.{furtherLines}
 use Rattle.reply.proofs.ValueLaws.{length-offsets, length-turns, length-six}
 use Rattle.reply.proofs.ListLaws.{every-list}
+use Rattle.reply.proofs.StoredLaws.{turns-at}
 
 -- ---- the parts of a line
 
-pub six-short : (t : Vec3) (r : Turns) → length (sixValues t r) ≤ 96
-six-short t r =
+-- the digits before the point of the longest value: a resultant's coordinate in millimetres
+abbrev wholes : ℕ
+wholes = 5
+
+coordinate-short : (z : ℤ) → natAbs z ≤ farthest → length (value z) ≤ wholes + 8
+coordinate-short z h = value-short wholes z (omega arith) (omega arith)
+
+turn-short : (n : ℕ) → n < 4 → length (degrees n) ≤ wholes + 8
+turn-short n h = value-short wholes (pos (n * quarterTurn)) (omega arith) (omega arith)
+
+six-short : (t : Vec3) (r : Turns) → Within farthest t → Quarters r → length (sixValues t r) ≤ 96
+six-short t r w q =
     omega (
       arith,
       length-six t r,
       length-offsets t,
       length-turns r,
-      value-short (t .x),
-      value-short (t .y),
-      value-short (t .z),
-      value-short (pos (r .u * quarterTurn)),
-      value-short (pos (r .v * quarterTurn)),
-      value-short (pos (r .w * quarterTurn)),
+      coordinate-short (t .x) (w .x-within),
+      coordinate-short (t .y) (w .y-within),
+      coordinate-short (t .z) (w .z-within),
+      turn-short (r .u) (q .u-below),
+      turn-short (r .v) (q .v-below),
+      turn-short (r .w) (q .w-below),
     )
 
 kind-short : (k : Kind) → length (ofKind k .shown) ≤ 9
@@ -62,15 +81,7 @@ unfolding legalName
 legal-short [] e = omega arith
 legal-short (b ∷ bs) e = leb-true (suc (length bs)) nameLimit (and-split (capital b && all nameByte bs) (leb (suc (length bs)) nameLimit) e .1)
 
-own-name : (s : System) → ownFine s ≡ true → length (s .name) ≤ 16
-own-name s e =
-    let n = legalName (s .name) in
-    let r = not (reserved (s .name)) in
-    let a = and-split (n && r && offsetsFine (s .offset) && turnsFine (s .turns)) _ e .0 in
-    let b = and-split (n && r && offsetsFine (s .offset)) (turnsFine (s .turns)) a .0 in
-    legal-short (s .name) (and-split n r (and-split (n && r) (offsetsFine (s .offset)) b .0) .0)
-
-module _ (l : List System) (fine : Systems l) where
+module _ (l : List System) (fine : Systems l) (w : Walkable l) where
   own-name-short : (k : ℕ) → length (systemAt l k .name) ≤ 16
   unfolding systemAt
   own-name-short zero = omega arith
@@ -78,7 +89,7 @@ module _ (l : List System) (fine : Systems l) where
     where
       go : Dec (length l < suc i) → length (systemAt l (suc i) .name) ≤ 16
       go (yes h) = rw (blank-beyond l (suc i) h) (omega arith)
-      go (no h) = own-name (systemAt l (suc i)) (fine .own (suc i) (omega arith, omega arith))
+      go (no h) = legal-short (systemAt l (suc i) .name) (own-of (systemAt l (suc i)) (fine .own (suc i) (omega arith, omega arith)) .name)
 
   name-short : (g : Group) (p : ℕ) → length (nameOf l (record { group = g; place = p })) ≤ 16
   unfolding nameOf
@@ -109,25 +120,30 @@ module _ (l : List System) (fine : Systems l) where
   unfolding systemLine joined
   system-short r =
       let s = systemAt l (r .place) in
-      simp (length-append, append-nil) (omega (arith, name-short (r .group) (r .place), type-short (r .group) (r .place), six-short (s .offset) (s .turns)))
+      let six = six-short (s .offset) (s .turns) (within-more offsetLimit farthest (s .offset) (omega arith) (w .offsets (r .place))) (turns-at l fine (r .place)) in
+      simp (length-append, append-nil) (omega (arith, name-short (r .group) (r .place), type-short (r .group) (r .place), six))
 
-  pub resultant-short : (r : Ref) → length (resultantLine l r) ≤ 158
+  pub resultant-short : (r : Ref) → r .place ≤ length l → length (resultantLine l r) ≤ 158
   unfolding resultantLine joined
-  resultant-short r =
+  resultant-short r h =
       let p = resultant l (r .place) in
-      simp (length-append, append-nil) (omega (arith, name-short (r .group) (r .place), group-short (r .group) .2, six-short (p .at) (shown (p .rot)), decimal-short (steps l (r .place))))
+      let six = six-short (p .at) (shown (p .rot)) (resultant-far l w (r .place) h) (shown-quarters (p .rot)) in
+      let count = decimal-short 2 (steps l (r .place)) (omega arith) (omega (arith, few-steps l w (r .place) h)) in
+      simp (length-append, append-nil) (omega (arith, name-short (r .group) (r .place), group-short (r .group) .2, six, count))
 
 -- ---- lists
 
-further-short : (f : ℕ → List ℕ) → ((k : ℕ) → length (f k) ≤ 158) → (n k : ℕ) → length (furtherLines f n k) ≤ 160 * n + 1
+further-short : (f : ℕ → List ℕ) (m : ℕ) → ((k : ℕ) → k ≤ m → length (f k) ≤ 158) → (n k : ℕ) → k + n ≤ suc m → length (furtherLines f n k) ≤ 160 * n + 1
 unfolding furtherLines
-further-short f h zero k = omega arith
-further-short f h (suc n) k = omega (arith, h k, further-short f h n (suc k), length-append (f k) (furtherLines f n (suc k)))
+further-short f m h zero k b = omega arith
+further-short f m h (suc n) k b =
+    omega (arith, h k (omega arith), further-short f m h n (suc k) (omega arith), length-append (f k) (furtherLines f n (suc k)))
 
-every-short : (line : Ref → List ℕ) (l : List System) → length l ≤ 16 → ((r : Ref) → length (line r) ≤ 158) → length (listing (map line (everySystem l))) ≤ bufferLimit
+every-short : (line : Ref → List ℕ) (l : List System) → length l ≤ 16 → ((r : Ref) → r .place ≤ length l → length (line r) ≤ 158) → length (listing (map line (everySystem l))) ≤ bufferLimit
 every-short line l few h =
+    let users = further-short (λ k. line (userRef l k)) (length l) (λ k. h (userRef l k)) (length l) 1 (omega arith) in
     rw (every-list line l) (simp length-append
-    (omega (arith, h (fixedRef Operating), h (fixedRef Orientational), h (fixedRef Levelling), further-short (λ k. line (userRef l k)) (λ k. h (userRef l k)) (length l) 1)))
+    (omega (arith, h (fixedRef Operating) (omega arith), h (fixedRef Orientational) (omega arith), h (fixedRef Levelling) (omega arith), users)))
 
 refs-short : (line : Ref → List ℕ) (e : Enabled) → ((r : Ref) → length (line r) ≤ 158) → length (listing (map line (enabledRefs e))) ≤ bufferLimit
 unfolding enabledRefs listing joined
@@ -145,10 +161,17 @@ refs-short line e h = go (e .operating)
 
 pub listed-short : (m : Memory) → memoryFine m ≡ true → (q : Query) → length (listed m q) ≤ bufferLimit
 unfolding listed listing
-listed-short m f enabledOnes = refs-short (enabledLine (m .systems)) (m .enabled) (enabled-short (m .systems) (fine-of m f .systems))
-listed-short m f systemsAll = let s = fine-of m f .systems in every-short (systemLine (m .systems)) (m .systems) (s .few) (system-short (m .systems) s)
-listed-short m f links = let s = fine-of m f .systems in every-short (linkLine (m .systems)) (m .systems) (s .few) (link-short (m .systems) s)
-listed-short m f resultants = let s = fine-of m f .systems in every-short (resultantLine (m .systems)) (m .systems) (s .few) (resultant-short (m .systems) s)
+listed-short m f enabledOnes = refs-short (enabledLine (m .systems)) (m .enabled) (enabled-short (m .systems) (fine-of m f .systems) (walkable m f))
+listed-short m f systemsAll =
+    let s = fine-of m f .systems in
+    every-short (systemLine (m .systems)) (m .systems) (s .few) (λ r h. system-short (m .systems) s (walkable m f) r)
+listed-short m f links =
+    let s = fine-of m f .systems in
+    every-short (linkLine (m .systems)) (m .systems) (s .few) (λ r h. link-short (m .systems) s (walkable m f) r)
+listed-short m f resultants =
+    let s = fine-of m f .systems in
+    every-short (resultantLine (m .systems)) (m .systems) (s .few) (resultant-short (m .systems) s (walkable m f))
 listed-short m f (resultantOf a) =
-    let n = resultant-short (m .systems) (fine-of m f .systems) (named m a) in
+    let within : named m a .place ≤ length (m .systems) = rw (named-place m a) (place-within (m .systems) a) in
+    let n = resultant-short (m .systems) (fine-of m f .systems) (walkable m f) (named m a) within in
     rw length-append (omega arith)

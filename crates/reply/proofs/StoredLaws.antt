@@ -1,20 +1,21 @@
 -- What a well-formed stored memory gives the writers.
-use Prim.Native.Nat.{ℕ, suc, _≤_, _<_}
+use Prim.Native.Nat.{ℕ, zero, suc, _≤_, _<_}
 use mathlib.Core.Path.{_≡_, ap, _∙_}
-use mathlib.Core.Bool.{true, not, _&&_}
+use mathlib.Core.Bool.{true, _&&_}
+use mathlib.Core.List.{List}
 use native.Mathlib.Omega.{arith}
+use native.Mathlib.Decide.{decLt}
 use borrow.Author.Tests.{leb-true}
 use lib.Dec.{leb}
 use lib.ListN.{length, getD, take, length-take}
 use lib.Seq.{getD-take}
 use Rattle.model.specs.Lists.{all}
 use Rattle.model.specs.Limits.{maxSystems, nameLimit, offsetLimit}
-use Rattle.model.specs.Memory.{System, systemAt}
+use Rattle.model.specs.Memory.{System, systemAt, noTurn}
 use Rattle.model.specs.Stored.{systemOf, systemsOf, memoryOf, nameShaped, memoryShaped}
-use Rattle.model.specs.Words.{legalName, reserved}
-use Rattle.model.specs.WellFormed.{offsetsFine, turnsFine, memoryFine}
+use Rattle.model.specs.WellFormed.{turnsFine, memoryFine}
 use Rattle.model.proofs.Basics.{and-split, all-at}
-use Rattle.model.proofs.Memories.Fine.{ownFine, fine-of, preds-within}
+use Rattle.model.proofs.Memories.Fine.{Systems, own-of, fine-of, preds-within, blank-beyond}
 use Rattle.pose.specs.Poses.{Quarters, reach}
 use Rattle.pose.proofs.Bounds.{within-more}
 use Rattle.chains.proofs.Copies.{unset}
@@ -35,10 +36,18 @@ turns-in t e =
       w-below = omega (arith, leb-true (t .w) 3 (a .1));
     }
 
-own-turns : (s : System) → ownFine s ≡ true → Quarters (s .turns)
-own-turns s e =
-    let before = legalName (s .name) && not (reserved (s .name)) && offsetsFine (s .offset) in
-    turns-in (s .turns) (and-split before (turnsFine (s .turns)) (and-split (before && turnsFine (s .turns)) _ e .0) .1)
+no-quarters : Quarters noTurn
+no-quarters = record { u-below = omega arith; v-below = omega arith; w-below = omega arith }
+
+-- where no system stands, there is no turn
+pub turns-at : (l : List System) → Systems l → (k : ℕ) → Quarters (systemAt l k .turns)
+unfolding systemAt
+turns-at l f zero = no-quarters
+turns-at l f (suc i) = go (decLt (length l) (suc i))
+  where
+    go : Dec (length l < suc i) → Quarters (systemAt l (suc i) .turns)
+    go (yes h) = rw (blank-beyond l (suc i) h) no-quarters
+    go (no h) = turns-in (systemAt l (suc i) .turns) (own-of (systemAt l (suc i)) (f .own (suc i) (omega arith, omega arith)) .turns)
 
 -- ---- a memory with shape that is well formed; long is what owning it tells
 
@@ -78,5 +87,5 @@ module _ (m : StoredMemory) (shaped : memoryShaped m ≡ true) (long : length (m
         record {
           name-fits = name-fits i h;
           offsets-fit = within-more offsetLimit reach (s .offset) (omega arith) (rw (stands-at i h) at w);
-          turns-fit = rw (stands-at i h) at (own-turns (systemAt (systemsOf m) (suc i)) (f .own (suc i) (omega arith, omega (arith, count-is))));
+          turns-fit = rw (stands-at i h) at (turns-at (systemsOf m) f (suc i));
         }

@@ -2,31 +2,22 @@
 use Rattle.model.specs.Base.{ℕ, zero, suc, List, [], _∷_, _++_, length}
 use Prim.Native.Nat.{_≤_}
 use mathlib.Core.Path.{_≡_}
-use mathlib.Core.Bool.{true}
-use Rattle.reply.specs.Types.{Vec3, Turns, Group, Operating, Orientational, Levelling, StoredSystem, StoredMemory}
+use Rattle.reply.specs.Types.{Vec3, Turns, Group, Operating, Orientational, Levelling, StoredSystem}
 use Rattle.model.specs.Ascii.{ascii}
 use Rattle.model.specs.Lists.{joined}
-use Rattle.model.specs.Limits.{nameLimit, bufferLimit}
+use Rattle.model.specs.Limits.{nameLimit}
 use Rattle.model.specs.Kinds.{ofKind, ofGroup}
 use Rattle.model.specs.Memory.{System, Ref, fixedRef}
 use Rattle.model.specs.Machine.{written}
 use Rattle.model.specs.Reply.{sixValues, decimal}
-use Rattle.model.specs.Stored.{memoryOf, memoryShaped}
-use Rattle.model.specs.WellFormed.{memoryFine}
 use Rattle.pose.specs.Poses.{Within, Quarters, reach}
 
--- ---- what the calls promise and ask
+-- ---- what the calls promise and the writers ask
 
 -- the reply from byte 0 on, its length, and the later bytes as they were
 pub record Replied (text before after : List ℕ) (count : ℕ) : Type 0 where
   pub count-is : count ≡ length text
   pub bytes : after ≡ written text before
-
--- a well-formed memory and a lent buffer that is not too short
-pub record Ready (m : StoredMemory) (b : List ℕ) : Type 0 where
-  pub shaped : memoryShaped m ≡ true
-  pub fine : memoryFine (memoryOf m) ≡ true
-  pub room : bufferLimit ≤ length b
 
 -- a stored system that can be written
 pub record Writable (s : StoredSystem) : Type 0 where

@@ -11,12 +11,12 @@ use print::put_byte;
 ghost use mathlib.Core.Path.{_≡_};
 ghost use Prim.Native.Nat.{_+_, _≤_, _<_};
 ghost use lib.ListN.{length};
-ghost use Rattle.model.specs.Limits.{nameLimit};
-ghost use Rattle.model.specs.Stored.{systemOf, memoryOf};
+ghost use Rattle.model.specs.Limits.{nameLimit, bufferLimit};
+ghost use Rattle.model.specs.Stored.{systemOf, memoryOf, FineMemory};
 ghost use Rattle.model.specs.Request.{enabledOnes};
 ghost use Rattle.model.specs.Reply.{listed};
 ghost use Rattle.print.specs.Over.{Wrote};
-ghost use Rattle.reply.specs.Lines.{Ready, Replied, further, enabledText};
+ghost use Rattle.reply.specs.Lines.{Replied, further, enabledText};
 ghost use Rattle.reply.specs.EnabledText.{firstPlace, toolPlace, pair?, toolText, groupsText, GroupsFit};
 
 // The one operating place, or the work half's.
@@ -79,7 +79,8 @@ fn put_groups(reply: &mut [u8], at: usize, e: Enabled, o: System, l: System) -> 
 }
 
 pub fn enabled(m: Memory, reply: &mut [u8]) -> usize
-    requires { ⌜ Ready m (now reply) ⌝ }
+    requires { ⌜ FineMemory m ⌝ }
+    requires { ⌜ bufferLimit ≤ length (now reply) ⌝ }
     ensures { λ r. ⌜ Replied (listed (memoryOf m) enabledOnes) (now (reply .entry)) (now (reply .exit)) r ⌝ }
 {
     let e = m.enabled;

@@ -13,10 +13,10 @@ ghost use Prim.Native.Nat.{_-_, _≤_};
 ghost use lib.ListN.{length};
 ghost use Rattle.model.specs.Ascii.{ascii};
 ghost use Rattle.model.specs.Limits.{bufferLimit};
-ghost use Rattle.model.specs.Stored.{memoryOf};
+ghost use Rattle.model.specs.Stored.{memoryOf, FineMemory};
 ghost use Rattle.model.specs.Request.{systemsAll, links};
 ghost use Rattle.model.specs.Reply.{decimal, listed};
-ghost use Rattle.reply.specs.Lines.{Ready, Replied};
+ghost use Rattle.reply.specs.Lines.{Replied};
 
 pub mod texts; // texts.rt: types, groups and own values as text
 pub mod lines; // lines.rt: the lines of the lists
@@ -44,7 +44,8 @@ pub fn last_error(number: u8, reply: &mut [u8]) -> usize
 
 // KLS?
 pub fn systems(m: Memory, reply: &mut [u8]) -> usize
-    requires { ⌜ Ready m (now reply) ⌝ }
+    requires { ⌜ FineMemory m ⌝ }
+    requires { ⌜ bufferLimit ≤ length (now reply) ⌝ }
     ensures { λ r. ⌜ Replied (listed (memoryOf m) systemsAll) (now (reply .entry)) (now (reply .exit)) r ⌝ }
 {
     let count = m.count as usize;
@@ -61,7 +62,8 @@ pub fn systems(m: Memory, reply: &mut [u8]) -> usize
 
 // KLN?
 pub fn links(m: Memory, reply: &mut [u8]) -> usize
-    requires { ⌜ Ready m (now reply) ⌝ }
+    requires { ⌜ FineMemory m ⌝ }
+    requires { ⌜ bufferLimit ≤ length (now reply) ⌝ }
     ensures { λ r. ⌜ Replied (listed (memoryOf m) links) (now (reply .entry)) (now (reply .exit)) r ⌝ }
 {
     let count = m.count as usize;

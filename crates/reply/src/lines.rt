@@ -4,7 +4,7 @@ use crate::texts::put_end;
 use crate::texts::put_fixed_name;
 use crate::texts::put_kind;
 use crate::texts::put_six_values;
-use memory::kinds::group_of;
+use facts::kinds::group_of;
 use model::Group;
 use model::Name;
 use model::System;

@@ -6,10 +6,10 @@ use crate::slot;
 use chains::frames::Reached;
 use chains::frames::frames_of;
 use chains::frames::reach;
-use chains::frames::reach_from;
 use chains::frames::unmoved;
 use chains::links::links_of;
-use memory::kinds::group_of;
+use facts::kinds::group_of;
+use facts::limits::MAX_SYSTEMS;
 use model::Group;
 use model::Memory;
 use model::Name;
@@ -19,14 +19,14 @@ use print::put_text;
 ghost use mathlib.Core.List.{_∷_, []};
 ghost use Prim.Native.Nat.{_+_, _≤_};
 ghost use lib.ListN.{length};
-ghost use Rattle.model.specs.Limits.{nameLimit};
-ghost use Rattle.model.specs.Stored.{bytesOf, systemsOf, memoryOf};
+ghost use Rattle.model.specs.Limits.{nameLimit, bufferLimit};
+ghost use Rattle.model.specs.Stored.{bytesOf, systemsOf, memoryOf, FineMemory};
 ghost use Rattle.model.specs.Request.{resultants};
 ghost use Rattle.model.specs.Reply.{listing, resultantLine, listed};
 ghost use Rattle.pose.specs.Poses.{Within};
 ghost use Rattle.print.specs.Over.{Wrote};
 ghost use Rattle.chains.specs.Walk.{walkOf};
-ghost use Rattle.reply.specs.Lines.{Ready, Replied, further};
+ghost use Rattle.reply.specs.Lines.{Replied, further};
 ghost use Rattle.reply.specs.Reached.{reachedText, refAt};
 
 // The line of a user system and what its walk reached.
@@ -48,10 +48,20 @@ fn put_further_reached(part: &mut [u8], name: Name, g: Group, r: Reached) -> usi
     put_reached(part, a, name, g, r)
 }
 
-// What is reached from each place is kept, so that a system whose predecessor comes first is one link on from it. Place 0
-// is the fixed systems'.
+// Where the walk from system i can stop: at its predecessor, if that one comes first in the list and so has been reached; else at the fixed system.
+fn reached_before(pred: usize, i: usize) -> usize
+    ensures { λ r. ⌜ r ≤ i ⌝ }
+{
+    if pred <= i {
+        return pred;
+    }
+    0
+}
+
+// What is reached from each place is kept for the walks of those that follow on from it. Place 0 is the fixed systems'.
 pub fn resultants(m: Memory, reply: &mut [u8]) -> usize
-    requires { ⌜ Ready m (now reply) ⌝ }
+    requires { ⌜ FineMemory m ⌝ }
+    requires { ⌜ bufferLimit ≤ length (now reply) ⌝ }
     ensures { λ r. ⌜ Replied (listed (memoryOf m) resultants) (now (reply .entry)) (now (reply .exit)) r ⌝ }
 {
     let links = links_of(m);
@@ -61,15 +71,23 @@ pub fn resultants(m: Memory, reply: &mut [u8]) -> usize
     let turns = frames.turns;
     let count = m.count as usize;
     let start = unmoved();
-    let mut known = [start; 17];
+    let mut known = [start; MAX_SYSTEMS + 1];
     let mut at = put_fixed_resultants(reply);
     let mut i = 0;
     while i < count {
         let s = m.systems[i];
         let kind = s.kind;
-        let pred = preds[i] as usize;
-        let before = known[pred];
-        let r = reach_from(before, &offsets, &turns, &preds[..count], i);
+        let stop = reached_before(preds[i] as usize, i);
+        let before = known[stop];
+        let r = reach(
+            &offsets,
+            &turns,
+            &preds[..count],
+            stop,
+            before,
+            i + 1,
+            MAX_SYSTEMS,
+        );
         known[i + 1] = r;
         let n = put_further_reached(&mut reply[at..], s.name, group_of(kind), r);
         at += n;
@@ -80,7 +98,9 @@ pub fn resultants(m: Memory, reply: &mut [u8]) -> usize
 
 // KLT? of one system: a group's fixed one (place 0), or the user system at the place.
 pub fn resultant_at(m: Memory, g: Group, place: u8, reply: &mut [u8]) -> usize
-    requires { ⌜ Ready m (now reply) × (place ≤ m .count) ⌝ }
+    requires { ⌜ FineMemory m ⌝ }
+    requires { ⌜ bufferLimit ≤ length (now reply) ⌝ }
+    requires { ⌜ place ≤ m .count ⌝ }
     ensures { λ r. ⌜ Replied (listing (resultantLine (systemsOf m) (refAt (systemsOf m) g place) ∷ [])) (now (reply .entry)) (now (reply .exit)) r ⌝ }
 {
     if place == 0 {
@@ -96,7 +116,16 @@ pub fn resultant_at(m: Memory, g: Group, place: u8, reply: &mut [u8]) -> usize
     let j = slot(place);
     let s = m.systems[j];
     let kind = s.kind;
-    let r = reach(&offsets, &turns, &preds[..count], place as usize, 16);
+    let start = unmoved();
+    let r = reach(
+        &offsets,
+        &turns,
+        &preds[..count],
+        0,
+        start,
+        place as usize,
+        MAX_SYSTEMS,
+    );
     let at = put_reached(reply, 0, s.name, group_of(kind), r);
     put_byte(reply, at, b'\n')
 }

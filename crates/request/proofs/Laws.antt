@@ -13,8 +13,7 @@ use Rattle.model.specs.Ascii.{ascii}
 use Rattle.model.specs.Lists.{all, none?, same}
 use Rattle.model.specs.Request.{Reading, malformed, asksChange, asksList, setLevel, resultants, resultantOf, definition, names?, oneName, twoNames, sameWords, fixedWords, levelWords, resultantWords}
 use Rattle.model.specs.Words.{legalName}
-use Rattle.model.proofs.Basics.{either, same-refl, same→≡, true-false}
-use Rattle.text.proofs.Lists.{and-false}
+use Rattle.model.proofs.Basics.{and-false, either, same-refl, same→≡, true-false}
 
 -- ---- names
 

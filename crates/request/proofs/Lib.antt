@@ -1,4 +1,5 @@
 pub mod CommandLaws
 pub mod Laws
+pub mod SameNumber
 pub mod Says
 pub mod Words

@@ -6,8 +6,8 @@ use native.Mathlib.Omega.{arith}
 use Rattle.model.specs.declared.Name.{Name}
 use Rattle.model.specs.Limits.{nameLimit}
 use Rattle.model.specs.Request.{Reading}
-use Rattle.model.specs.Stored.{bytesOf}
-use Rattle.request.specs.Asked.{Says, asking, emptyName, named}
+use Rattle.model.specs.Stored.{bytesOf, emptyName}
+use Rattle.request.specs.Asked.{Says, asking, named}
 use Rattle.request.specs.declared.Asked.{Asked}
 use Rattle.request.specs.declared.Request.{Request}
 

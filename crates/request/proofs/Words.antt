@@ -44,10 +44,10 @@ module _ (line : List ℕ) (at : ℕ) (w : Word) (e : w ≡ nextWord line at) wh
       go (yes h) = eq-eqb _ _ h ∙ rw (words-none line at w e h)
       go (no h) = ne-eqb _ _ h ∙ rw (words-next line at w e h)
 
-pub legal-long : (w : List ℕ) → legalName w ≡ true → 0 < length w
+pub legal-some : (w : List ℕ) → legalName w ≡ true → 0 < length w
 unfolding legalName
-legal-long [] e = true-false (sym e)
-legal-long (b ∷ bs) e = omega arith
+legal-some [] e = true-false (sym e)
+legal-some (b ∷ bs) e = omega arith
 
 pub same-long : (w t : List ℕ) → 0 < length t → same w t ≡ true → 0 < length w
 same-long w t l e = rw (same→≡ w t e) l

@@ -1,44 +1,51 @@
--- What a request of the code stands for: a reading of document 01.
+-- What a request of the code says: document 01's number, and where that is 0 what the line asks.
 use Prim.Native.Nat.{ℕ, _≤_}
 use mathlib.Core.Path.{_≡_}
 use mathlib.Core.List.{List}
-use lib.ListN.{replicate}
+use mathlib.Core.Option.{none}
 use Rattle.model.specs.declared.Name.{Name}
 use Rattle.model.specs.declared.Vec3.{Vec3}
 use Rattle.model.specs.declared.Turns.{Turns}
 use Rattle.model.specs.Limits.{nameLimit}
-use Rattle.model.specs.Memory.{noTurn}
+use Rattle.model.specs.Memory.{State, noTurn}
 use Rattle.model.specs.Pose.{origin}
+use Rattle.model.specs.Refusals.{first, readingLadder}
 use Rattle.model.specs.Stored.{bytesOf}
 use Rattle.model.specs.Request as model
+use Rattle.model.specs.Told.{Told, tells, refuses}
+use Rattle.text.specs.Readings.{readingTold}
 use Rattle.request.specs.declared.Asked.{Asked}
 use Rattle.request.specs.declared.Asked.the-variants.{Unknown, Malformed, Beyond, Define, Link, Copy, Remove, Enable, SetLevel, Save, Restore, Reset, ListEnabled, ListSystems, ListLinks, ListResultants, ListResultant, LastError}
 use Rattle.request.specs.declared.Request.{Request}
 
--- what each case says of the names and values beside it
-abbrev pub meaning : Asked → List ℕ → List ℕ → Vec3 → Turns → model.Reading
-meaning Unknown a b t u = model.unknown
-meaning Malformed a b t u = model.malformed
-meaning Beyond a b t u = model.beyond
-meaning (Define k) a b t u = model.asksChange (model.define k a t u)
-meaning Link a b t u = model.asksChange (model.link a b)
-meaning Copy a b t u = model.asksChange (model.copy a b)
-meaning Remove a b t u = model.asksChange (model.remove a)
-meaning Enable a b t u = model.asksChange (model.enable a)
-meaning (SetLevel n) a b t u = model.asksChange (model.setLevel n)
-meaning Save a b t u = model.asksChange model.save
-meaning Restore a b t u = model.asksChange model.restore
-meaning Reset a b t u = model.asksChange model.reset
-meaning ListEnabled a b t u = model.asksList model.enabledOnes
-meaning ListSystems a b t u = model.asksList model.systemsAll
-meaning ListLinks a b t u = model.asksList model.links
-meaning ListResultants a b t u = model.asksList model.resultants
-meaning ListResultant a b t u = model.asksList (model.resultantOf a)
-meaning LastError a b t u = model.asks model.lastError
+-- [Commands; Errors 4 to 6] each case, with the names and values beside it
+abbrev pub askedTold : Asked → List ℕ → List ℕ → Vec3 → Turns → Told model.Request
+askedTold Unknown a b t u = refuses 4
+askedTold Malformed a b t u = refuses 5
+askedTold Beyond a b t u = refuses 6
+askedTold (Define k) a b t u = tells (model.change (model.define k a t u))
+askedTold Link a b t u = tells (model.change (model.link a b))
+askedTold Copy a b t u = tells (model.change (model.copy a b))
+askedTold Remove a b t u = tells (model.change (model.remove a))
+askedTold Enable a b t u = tells (model.change (model.enable a))
+askedTold (SetLevel n) a b t u = tells (model.change (model.setLevel n))
+askedTold Save a b t u = tells (model.change model.save)
+askedTold Restore a b t u = tells (model.change model.restore)
+askedTold Reset a b t u = tells (model.change model.reset)
+askedTold ListEnabled a b t u = tells (model.list model.enabledOnes)
+askedTold ListSystems a b t u = tells (model.list model.systemsAll)
+askedTold ListLinks a b t u = tells (model.list model.links)
+askedTold ListResultants a b t u = tells (model.list model.resultants)
+askedTold ListResultant a b t u = tells (model.list (model.resultantOf a))
+askedTold LastError a b t u = tells model.lastError
 
 -- the whole request
+abbrev pub requestTold : Request → Told model.Request
+requestTold r = askedTold (r .asked) (bytesOf (r .first)) (bytesOf (r .second)) (r .offset) (r .turns)
+
+-- the reading that it stands for
 abbrev pub readingOf : Request → model.Reading
-readingOf r = meaning (r .asked) (bytesOf (r .first)) (bytesOf (r .second)) (r .offset) (r .turns)
+readingOf r = readingTold model.asks (requestTold r)
 
 -- the request says this, and its names lie within their arrays
 pub record Says (r : Request) (reading : model.Reading) : Type 0 where
@@ -46,14 +53,15 @@ pub record Says (r : Request) (reading : model.Reading) : Type 0 where
   pub first-fits : r .first .len ≤ nameLimit
   pub second-fits : r .second .len ≤ nameLimit
 
--- ---- requests without values
+-- [Errors 4 to 6] the number of a refused request is the one that the ladder gives its reading, in every state
+abbrev pub SameNumber : Type 0
+SameNumber = (st : State) (r : Request) → requestTold r .value ≡ none → first (readingLadder st (readingOf r)) ≡ requestTold r .number
 
-abbrev pub emptyName : Name
-emptyName = record { bytes = replicate nameLimit 0; len = 0 }
+-- ---- requests without values
 
 abbrev pub asking : Asked → Name → Name → Request
 asking q a b = record { asked = q; first = a; second = b; offset = origin; turns = noTurn }
 
 -- with these names
 abbrev pub named : Asked → List ℕ → List ℕ → model.Reading
-named q a b = meaning q a b origin noTurn
+named q a b = readingTold model.asks (askedTold q a b origin noTurn)

@@ -1,15 +1,13 @@
--- How the arguments of a command are read, and the command words by groups.
+-- How the arguments of a command are read, and the command words by their length.
 use Prim.Native.Nat.{ℕ}
-use mathlib.Core.List.{List, [], _∷_}
-use lib.ListN.{length, take, drop}
+use mathlib.Core.List.{List, [], _∷_, _++_}
 use Rattle.model.specs.Ascii.{ascii}
-use Rattle.model.specs.Kinds.{kinds}
-use Rattle.model.specs.Request.{Reading, unknown, Command, commands, definition, oneName, twoNames, fixedWords, levelWords, resultantWords}
+use Rattle.model.specs.Request.{Reading, unknown, Command, definitions, edits, settings, definition, oneName, twoNames, fixedWords, levelWords, resultantWords}
 use Rattle.request.specs.Asked.{named}
 use Rattle.request.specs.declared.commands.Form.{Form}
 use Rattle.request.specs.declared.commands.Form.the-variants.{NoCommand, Definition, OneName, TwoNames, Password, Alone, Level, Resultants}
 
--- what arguments say in each form
+-- [Error 4; Commands] what arguments say in each form; no command is the reading that number 4 refuses
 abbrev pub readAs : Form → List (List ℕ) → Reading
 readAs NoCommand args = unknown
 readAs (Definition k) args = definition k args
@@ -20,17 +18,6 @@ readAs (Alone q) args = fixedWords [] (named q [] []) args
 readAs Level args = levelWords args
 readAs Resultants args = resultantWords args
 
--- ---- document 01's commands by groups. The words of three letters stand first, thirteen of them; the queries have four letters
-
-unfoldable pub threeLetters : List Command
-threeLetters = take 13 commands
-
--- behind the definitions: KLN, KCP, KRM, KEN, and then the settings
-unfoldable pub edits : List Command
-edits = drop (length kinds) threeLetters
-
-unfoldable pub settings : List Command
-settings = drop 4 edits
-
-unfoldable pub queries : List Command
-queries = drop 13 commands
+-- [Commands] the words of three letters: all but the queries, which have four
+abbrev pub threeLetters : List Command
+threeLetters = definitions ++ (edits ++ settings)

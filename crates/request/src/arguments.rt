@@ -2,11 +2,13 @@
 use super::Asked;
 use super::Request;
 use super::commands::Form;
+use facts::names::no_name;
 use model::Kind;
 use model::Name;
 use model::Turns;
 use model::Vec3;
 use text::names::read_name;
+use text::pairs::Pairs;
 use text::pairs::read_pairs;
 use text::words::is_word;
 use text::words::next_word;
@@ -17,18 +19,10 @@ ghost use mathlib.Core.List.{[], _∷_};
 ghost use lib.ListN.{length};
 ghost use Rattle.model.specs.Lists.{none?};
 ghost use Rattle.model.specs.Request.{malformed, definition, sameWords, oneName, twoNames, levelWords, resultantWords};
+ghost use Rattle.model.specs.Stored.{emptyName};
 ghost use Rattle.text.specs.Cursor.{wordsFrom};
-ghost use Rattle.request.specs.Asked.{Says, asking, emptyName, named};
+ghost use Rattle.request.specs.Asked.{Says, asking, named};
 ghost use Rattle.request.specs.Forms.{readAs};
-
-fn no_name() -> Name
-    ensures { λ r. ⌜ r ≡ emptyName ⌝ }
-{
-    Name {
-        bytes: [0u8; 16],
-        len: 0,
-    }
-}
 
 fn ask(asked: Asked, first: Name, second: Name) -> Request
     ensures { λ r. ⌜ r ≡ asking asked first second ⌝ }
@@ -158,22 +152,20 @@ fn defining(line: &[u8], at: usize, kind: Kind) -> Request
     }
     let end = w.end;
     let p = read_pairs(line, end, kind);
-    if p.malformed {
-        return plain(Asked::Malformed);
-    }
-    if p.beyond {
-        return plain(Asked::Beyond);
-    }
     let first = a.name;
-    let second = no_name();
-    let offset = p.offset;
-    let turns = p.turns;
-    Request {
-        asked: Asked::Define(kind),
-        first,
-        second,
-        offset,
-        turns,
+    match p {
+        Pairs::Malformed => plain(Asked::Malformed),
+        Pairs::Beyond => plain(Asked::Beyond),
+        Pairs::Kept(offset, turns) => {
+            let second = no_name();
+            Request {
+                asked: Asked::Define(kind),
+                first,
+                second,
+                offset,
+                turns,
+            }
+        }
     }
 }
 

@@ -4,11 +4,11 @@ use model::Kind;
 use text::words::Word;
 use text::words::is_word;
 ghost use mathlib.Core.Path.{_≡_};
-ghost use mathlib.Core.List.{List};
+ghost use mathlib.Core.List.{List, _++_};
 ghost use Prim.Native.Nat.{ℕ};
-ghost use Rattle.model.specs.Request.{readBy, commands};
+ghost use Rattle.model.specs.Request.{readBy, edits, settings, queries, commands};
 ghost use Rattle.text.specs.Cursor.{wordOf, Within};
-ghost use Rattle.request.specs.Forms.{readAs, threeLetters, edits, settings, queries};
+ghost use Rattle.request.specs.Forms.{readAs, threeLetters};
 
 // How arguments are read, and what is asked if they have that form.
 pub enum Form {
@@ -73,7 +73,7 @@ fn setting(line: &[u8], w: Word) -> Form
 // Changes of systems that are there, and then the settings.
 fn edit(line: &[u8], w: Word) -> Form
     requires { ⌜ Within (now line) w ⌝ }
-    ensures { λ r. ⌜ ((args : List (List ℕ)) → readAs r args ≡ readBy edits (wordOf (now (line .entry)) w) args) ⌝ }
+    ensures { λ r. ⌜ ((args : List (List ℕ)) → readAs r args ≡ readBy (edits ++ settings) (wordOf (now (line .entry)) w) args) ⌝ }
 {
     if is_word(line, w, b"KLN") {
         return Form::TwoNames(Asked::Link);

@@ -1,10 +1,9 @@
 // The bytes that a line may have.
+use facts::limits::LINE_LIMIT;
 ghost use mathlib.Core.Path.{_≡_};
 ghost use Rattle.model.specs.Refusals as model;
 
-const LINE_LIMIT: usize = 120;
-
-// Whether the line is too long, or has a byte outside 32 to 126. A long one is refused unread; otherwise every byte is judged, with no way out of the
+// Whether number 3 refuses the line. A long one is refused unread; otherwise every byte is judged, with no way out of the
 // loop, so that many can be judged at a time.
 pub fn unreadable(line: &[u8]) -> bool
     ensures { λ r. ⌜ r ≡ model.unreadable (now (line .entry)) ⌝ }

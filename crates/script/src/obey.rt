@@ -9,7 +9,7 @@ use model::State;
 ghost use Prim.Native.Nat.{_+_, _*_, _≤_};
 ghost use lib.ListN.{length};
 ghost use Rattle.model.specs.Stored.{viewOf, lineAnswer, imageAnswer};
-ghost use Rattle.engine.specs.Fine.{answeredOf};
+ghost use Rattle.engine.specs.Answers.{answeredOf};
 ghost use Rattle.machine.specs.Calls.{begunOf};
 ghost use Rattle.script.specs.Directive.{longestLine, longestLent};
 ghost use Rattle.script.specs.Answer.{longestAnswer};

@@ -1,5 +1,5 @@
 -- From what the engine gives for a line to what is said.
-use Prim.Native.Nat.{ℕ, _≤_}
+use Prim.Native.Nat.{ℕ, _≤_, _<_}
 use mathlib.Core.Path.{_≡_, refl, sym, ap, _∙_}
 use mathlib.Core.List.{List}
 use mathlib.Core.Bool.{true}
@@ -11,17 +11,18 @@ use lib.ListN.{length, drop, length-append}
 use Rattle.model.specs.Ascii.{ascii}
 use Rattle.model.specs.Reply.{decimal}
 use Rattle.print.specs.Over.{Wrote}
-use Rattle.print.proofs.Laws.{decimal-short, over-front}
+use Rattle.model.proofs.Digits.{decimal-short}
+use Rattle.print.proofs.Laws.{over-front}
 use Rattle.model.specs.declared.State.{State as StoredState}
 use Rattle.model.specs.Limits.{bufferLimit}
 use Rattle.model.specs.Memory.{State}
 use Rattle.model.specs.Machine.{Outcome, stepped, written}
 use Rattle.model.specs.Trace.{printed}
-use Rattle.model.specs.Stored.{holds, shapeless, Answered, ofOutcome, shaped, stateOf, viewOf}
+use Rattle.model.specs.Stored.{FineState, holds, shapeless, Answered, ofOutcome, shaped, stateOf, viewOf}
 use Rattle.model.proofs.Basics.{either}
 use Rattle.model.proofs.Histories.Kept.{well-formed-kept}
 use Rattle.engine.specs.declared.answer.Stepped.{Stepped}
-use Rattle.engine.specs.Fine.{Fine, answeredOf}
+use Rattle.engine.specs.Answers.{answeredOf}
 use Rattle.engine.proofs.Views.{view-holds, view-shapeless}
 use Rattle.reply.specs.Lines.{Replied}
 use Rattle.session.specs.Feed.{lent, said, outcome}
@@ -50,17 +51,18 @@ view-is s st e =
 fits : (t b : List ℕ) → length (written t b) ≡ length b → length t ≤ length b
 fits t b e = omega (arith, e, length-append t (drop (length t) b))
 
-refusal-short : (n : ℕ) → length (refusalText n) ≤ 8
-refusal-short n = omega (arith, length-append (decimal n) (ascii "\n"), decimal-short n)
+-- the number is a byte
+refusal-short : (n : ℕ) → n < 256 → length (refusalText n) ≤ 6
+refusal-short n h = omega (arith, length-append (decimal n) (ascii "\n"), decimal-short 3 n (omega arith) (omega arith))
 
 -- E and the number, written from place 0 on
-pub refusal-written : (k : ℕ) (b d : List ℕ) (n : ℕ) → bufferLimit ≤ length b → Wrote (refusalText k) b 0 d n → Replied (refusalText k) b d n
-refusal-written k b d n h w =
-    record { count-is = omega (arith, w .place); bytes = w .bytes ∙ over-front (refusalText k) b (omega (arith, refusal-short k)) }
+pub refusal-written : (k : ℕ) → k < 256 → (b d : List ℕ) (n : ℕ) → bufferLimit ≤ length b → Wrote (refusalText k) b 0 d n → Replied (refusalText k) b d n
+refusal-written k small b d n h w =
+    record { count-is = omega (arith, w .place); bytes = w .bytes ∙ over-front (refusalText k) b (omega (arith, refusal-short k small)) }
 
 -- ---- one line
 
-module _ (s : StoredState) (fine : Fine s) (line b : List ℕ) (long : bufferLimit ≤ length b) (o : Outcome) (e : o ≡ stepped (stateOf s) line b) where
+module _ (s : StoredState) (fine : FineState s) (line b : List ℕ) (long : bufferLimit ≤ length b) (o : Outcome) (e : o ≡ stepped (stateOf s) line b) where
   like-lent : seen o ≡ seen (outcome (stateOf s) line)
   like-lent = ap seen e ∙ any-buffer (stateOf s) line b lent long lent-long
 
@@ -108,7 +110,7 @@ module _ (s : StoredState) (fine : Fine s) (line b : List ℕ) (long : bufferLim
       }
 
 -- the same where the state came back by value
-pub answers-obeyed : (s : StoredState) → Fine s → (line b : List ℕ) → bufferLimit ≤ length b → (r : Stepped) (c : List ℕ) →
+pub answers-obeyed : (s : StoredState) → FineState s → (line b : List ℕ) → bufferLimit ≤ length b → (r : Stepped) (c : List ℕ) →
     answeredOf r c ≡ ofOutcome (stepped (stateOf s) line b) → (d : List ℕ) (n : ℕ) → Says (r .number) (r .length) c d n → length d ≡ length b →
     Answers s line b d (r .state) n
 answers-obeyed s fine line b long r c e d n says kept =

@@ -60,12 +60,12 @@ pub printed-refused : (st : State) (n : ℕ) (b : List ℕ) → eqb n 0 ≡ fals
 unfolding printed
 printed-refused st n b h = rw (h, printed)
 
--- two lines of one number and, if it is 0, of one reading are seen alike, whatever they are lent
-judged-alike : (st : State) (n : ℕ) (l k b c : List ℕ) → (n ≡ 0 → reading l ≡ reading k) → seen (judged st n l b) ≡ seen (judged st n k c)
-judged-alike st n l k b c e =
+-- one number, and where it is 0 one reading, are seen alike, whatever is lent
+judged-alike : (st : State) (n : ℕ) (r q : Reading) (b c : List ℕ) → (n ≡ 0 → r ≡ q) → seen (judged st n r b) ≡ seen (judged st n q c)
+judged-alike st n r q b c e =
     ⊎-elim
-    (λ h. rw (judged-taken st n l b h, judged-taken st n k c h, e (eqb-true n 0 h)) (carried st (reading k) b c))
-    (λ h. rw (judged-refused st n l b h, judged-refused st n k c h, printed-refused (withError st n) n b h, printed-refused (withError st n) n c h) refl)
+    (λ h. rw (judged-taken st n r b h, judged-taken st n q c h, e (eqb-true n 0 h)) (carried st q b c))
+    (λ h. rw (judged-refused st n r b h, judged-refused st n q c h, printed-refused (withError st n) n b h, printed-refused (withError st n) n c h) refl)
     (either (eqb n 0))
 
 -- ---- the two laws
@@ -75,7 +75,7 @@ alike : (st : State) (l k b c : List ℕ) → refusal st l b ≡ refusal st k c 
     seen (stepped st l b) ≡ seen (stepped st k c)
 alike st l k b c e r =
     ⊎-elim
-    (λ h. rw (step-fine st l b h, step-fine st k c h, e) (judged-alike st (refusal st k c) l k b c r))
+    (λ h. rw (step-fine st l b h, step-fine st k c h, e) (judged-alike st (refusal st k c) (reading l) (reading k) b c r))
     (λ h. rw (step-ill st l b h, step-ill st k c h, printed-refused st 1 b refl, printed-refused st 1 c refl) refl)
     (either (wellFormed st))
 
@@ -109,17 +109,17 @@ carried-long st malformed b = written-long st [] b
 carried-long st beyond b = written-long st [] b
 carried-long st (asks r) b = written-long (next st (st .volatile) r) (reply st (st .volatile) r) b
 
-judged-long : (st : State) (n : ℕ) (l b : List ℕ) → length b ≤ length (judged st n l b .buffer)
-judged-long st n l b =
+judged-long : (st : State) (n : ℕ) (r : Reading) (b : List ℕ) → length b ≤ length (judged st n r b .buffer)
+judged-long st n r b =
     ⊎-elim
-    (λ h. rw (judged-taken st n l b h) (carried-long st (reading l) b))
-    (λ h. rw (judged-refused st n l b h) (omega arith))
+    (λ h. rw (judged-taken st n r b h) (carried-long st r b))
+    (λ h. rw (judged-refused st n r b h) (omega arith))
     (either (eqb n 0))
 
 pub stays-long : (st : State) (l b : List ℕ) → length b ≤ length (stepped st l b .buffer)
 stays-long st l b =
     ⊎-elim
-    (λ h. rw (step-fine st l b h) (judged-long st (refusal st l b) l b))
+    (λ h. rw (step-fine st l b h) (judged-long st (refusal st l b) (reading l) b))
     (λ h. rw (step-ill st l b h) (omega arith))
     (either (wellFormed st))
 
@@ -142,17 +142,17 @@ carried-writes st malformed b = answered-writes st [] b
 carried-writes st beyond b = answered-writes st [] b
 carried-writes st (asks r) b = answered-writes (next st (st .volatile) r) (reply st (st .volatile) r) b
 
-judged-writes : (st : State) (n : ℕ) (l b : List ℕ) → judged st n l b .number ≡ 0 → Writes (judged st n l b) b
-judged-writes st n l b z =
+judged-writes : (st : State) (n : ℕ) (r : Reading) (b : List ℕ) → judged st n r b .number ≡ 0 → Writes (judged st n r b) b
+judged-writes st n r b z =
     ⊎-elim
-    (λ h. rw (judged-taken st n l b h) (carried-writes st (reading l) b))
-    (λ h. absurd (eqb-false n 0 h (sym (ap (λ (o : Outcome). o .number) (judged-refused st n l b h)) ∙ z)))
+    (λ h. rw (judged-taken st n r b h) (carried-writes st r b))
+    (λ h. absurd (eqb-false n 0 h (sym (ap (λ (o : Outcome). o .number) (judged-refused st n r b h)) ∙ z)))
     (either (eqb n 0))
 
 pub taken-writes : (st : State) (l b : List ℕ) → stepped st l b .number ≡ 0 → Writes (stepped st l b) b
 taken-writes st l b z =
     ⊎-elim
-    (λ h. let e = step-fine st l b h in rw e (judged-writes st (refusal st l b) l b (sym (ap (λ (o : Outcome). o .number) e) ∙ z)))
+    (λ h. let e = step-fine st l b h in rw e (judged-writes st (refusal st l b) (reading l) b (sym (ap (λ (o : Outcome). o .number) e) ∙ z)))
     (λ h. absurd (omega (arith, z, ap (λ (o : Outcome). o .number) (step-ill st l b h))))
     (either (wellFormed st))
 

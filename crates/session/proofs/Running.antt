@@ -10,8 +10,7 @@ use lib.Seq.{take-all}
 use Rattle.model.specs.declared.State.{State as StoredState}
 use Rattle.model.specs.Limits.{bufferLimit}
 use Rattle.model.specs.Memory.{State}
-use Rattle.model.specs.Stored.{stateOf}
-use Rattle.engine.specs.Fine.{Fine}
+use Rattle.model.specs.Stored.{FineState, stateOf}
 use Rattle.lines.specs.Before.{before}
 use Rattle.session.specs.declared.cut.Kept.{Kept}
 use Rattle.session.specs.Feed.{Fed, fed, ended, said, outcome, enough, holding, printing, Keeps}
@@ -32,7 +31,7 @@ take-more l zero n h = ap (λ (j : ℕ). take j l) (zero-add n)
 take-more [] (suc k) n h = absurd (omega arith)
 take-more (x ∷ l) (suc k) n h = ap (λ (j : ℕ). take j (x ∷ l)) (suc-add k n) ∙ ap (λ (t : List ℕ). x ∷ t) (take-more l k n (omega arith))
 
-pub run-start : (s : StoredState) (block out : List ℕ) → Fine s → Run (stateOf s) block out out s 0 0
+pub run-start : (s : StoredState) (block out : List ℕ) → FineState s → Run (stateOf s) block out out s 0 0
 run-start s block out f =
     let e = fed-nothing (stateOf s) [] in
     record {
@@ -191,7 +190,7 @@ held-ends s block b d end k next n nothing few e h keeps a none =
     }
 
 -- the held line goes on
-pub held-on : (s : Session) (block b : List ℕ) (end : ℕ) (k : Kept) → Fine (s .state) → s .held .count ≤ enough → end ≡ 0 + before (drop 0 block) → end ≡ length block →
+pub held-on : (s : Session) (block b : List ℕ) (end : ℕ) (k : Kept) → FineState (s .state) → s .held .count ≤ enough → end ≡ 0 + before (drop 0 block) → end ≡ length block →
     Keeps (heldOf s .line ++ take end block) k →
     Feeds (s .state) (heldOf s .line) block b b (record { session = record { state = s .state; held = k }; used = end; written = 0 })
 held-on s block b end k fine few e h keeps =

@@ -14,7 +14,7 @@ use Rattle.commands.specs.Done.{done, Doable}
 use Rattle.commands.specs.declared.changed.Decision.{Decision}
 use Rattle.engine.specs.declared.answer.Step.{Step}
 use Rattle.engine.specs.Taken.{Takes, takenOf}
-use Rattle.engine.proofs.Views.{shape-both, shape-parts}
+use Rattle.memory.proofs.Shape.{shape-both, shape-parts}
 use Rattle.lines.specs.Before.{before}
 use Rattle.session.specs.Blocks.{Says, Run}
 use Rattle.session.proofs.Rest.{rest, withRest, rest-long, rest-again, put-again}

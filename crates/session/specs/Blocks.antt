@@ -9,8 +9,7 @@ use Rattle.model.specs.Limits.{bufferLimit}
 use Rattle.model.specs.Memory.{State}
 use Rattle.model.specs.Reply.{decimal}
 use Rattle.model.specs.Machine.{startFactory}
-use Rattle.model.specs.Stored.{stateOf}
-use Rattle.engine.specs.Fine.{Fine}
+use Rattle.model.specs.Stored.{FineState, stateOf}
 use Rattle.reply.specs.Lines.{Replied}
 use Rattle.lines.specs.Before.{before}
 use Rattle.session.specs.Feed.{fed, ended, said, outcome, enough, holding, Held}
@@ -26,7 +25,7 @@ heldOf s = holding (stateOf (s .state)) (take (s .held .count) (s .held .bytes))
 pub record Begins (s : Session) : Type 0 where
   pub held : heldOf s ≡ holding startFactory []
   pub few : s .held .count ≤ enough
-  pub fine : Fine (s .state)
+  pub fine : FineState (s .state)
 
 -- [ksrun] what is printed for a refusal
 abbrev pub refusalText : ℕ → List ℕ
@@ -42,12 +41,12 @@ pub record Answers (s : StoredState) (line before after : List ℕ) (next : Stor
   pub puts : Replied (said (stateOf s) line) before after n
   pub room : n ≤ length before
   pub state : stateOf next ≡ outcome (stateOf s) line .state
-  pub fine : Fine next
+  pub fine : FineState next
 
 -- the lines of a block up to a place were answered: the state there, and so many bytes
 pub record Run (st₀ : State) (block out₀ out : List ℕ) (s : StoredState) (at w : ℕ) : Type 0 where
   pub within : at ≤ length block
-  pub fine : Fine s
+  pub fine : FineState s
   pub held : fed st₀ [] (take at block) .held ≡ holding (stateOf s) []
   pub puts : Replied (fed st₀ [] (take at block) .output) out₀ out w
   pub room : w ≤ length out₀
@@ -66,7 +65,7 @@ pub record Feeds (s : StoredState) (line block before after : List ℕ) (r : Sto
   pub room : r .written ≤ length before
   pub held : heldOf (r .session) ≡ fed (stateOf s) line (take (r .used) block) .held
   pub few : r .session .held .count ≤ enough
-  pub fine : Fine (r .session .state)
+  pub fine : FineState (r .session .state)
 
 -- the end of the input was answered
 pub record Ends (s : Session) (before after : List ℕ) (count : ℕ) : Type 0 where

@@ -11,7 +11,7 @@ ghost use mathlib.Core.List.{[]};
 ghost use Prim.Native.Nat.{_≤_};
 ghost use lib.ListN.{length, take};
 ghost use Rattle.model.specs.Limits.{bufferLimit};
-ghost use Rattle.engine.specs.Fine.{Fine};
+ghost use Rattle.model.specs.Stored.{FineState};
 ghost use Rattle.session.specs.Feed.{enough};
 ghost use Rattle.session.specs.Blocks.{Begins, Answers, Feeds, Ends};
 
@@ -54,7 +54,7 @@ pub fn begin() -> Session
 
 // The reply as it is, or E and the number.
 fn answer_line(s: State, line: &[u8], out: &mut [u8]) -> Answer
-    requires { ⌜ Fine s ⌝ }
+    requires { ⌜ FineState s ⌝ }
     requires { ⌜ bufferLimit ≤ length (now out) ⌝ }
     ensures { λ r. ⌜ Answers s (now (line .entry)) (now (out .entry)) (now (out .exit)) (r .state) (r .written) ⌝ }
 {
@@ -66,7 +66,7 @@ fn answer_line(s: State, line: &[u8], out: &mut [u8]) -> Answer
 
 // Whole lines from the start of a block on, while there is room for answers. What is left without an LF is held.
 fn whole_lines(s: State, block: &[u8], out: &mut [u8]) -> Fed
-    requires { ⌜ Fine s ⌝ }
+    requires { ⌜ FineState s ⌝ }
     requires { ⌜ bufferLimit ≤ length (now out) ⌝ }
     ensures { λ r. ⌜ Feeds s [] (now (block .entry)) (now (out .entry)) (now (out .exit)) r ⌝ }
 {
@@ -95,7 +95,7 @@ fn whole_lines(s: State, block: &[u8], out: &mut [u8]) -> Fed
 
 // A block: first the line that was held, if there is one, then whole lines.
 pub fn feed(s: Session, block: &[u8], out: &mut [u8]) -> Fed
-    requires { ⌜ Fine (s .state) ⌝ }
+    requires { ⌜ FineState (s .state) ⌝ }
     requires { ⌜ s .held .count ≤ enough ⌝ }
     requires { ⌜ bufferLimit ≤ length (now out) ⌝ }
     ensures { λ r. ⌜ Feeds (s .state) (take (s .held .count) (s .held .bytes)) (now (block .entry)) (now (out .entry)) (now (out .exit)) r ⌝ }
@@ -133,7 +133,7 @@ pub fn feed(s: Session, block: &[u8], out: &mut [u8]) -> Fed
 
 // The end of the input: bytes after the last LF, if any, are one more line.
 pub fn finish(s: Session, out: &mut [u8]) -> usize
-    requires { ⌜ Fine (s .state) ⌝ }
+    requires { ⌜ FineState (s .state) ⌝ }
     requires { ⌜ s .held .count ≤ enough ⌝ }
     requires { ⌜ bufferLimit ≤ length (now out) ⌝ }
     ensures { λ r. ⌜ Ends s (now (out .entry)) (now (out .exit)) r ⌝ }

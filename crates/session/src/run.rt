@@ -1,7 +1,8 @@
 // The lines of a block, one after the other. The state lies open in its parts, and what a line does is done there in place: no line copies the state.
 use commands::changed::Deed;
-use engine::line::ROOM;
 use engine::line::decide;
+use facts::limits::BUFFER_LIMIT;
+use facts::numbers::ACCEPTED;
 use lines::line_end;
 use memory::edit::put_at;
 use memory::edit::removed_at;
@@ -15,7 +16,7 @@ ghost use mathlib.Core.Path.{_≡_};
 ghost use Prim.Native.Nat.{_≤_};
 ghost use lib.ListN.{length};
 ghost use Rattle.model.specs.Limits.{bufferLimit};
-ghost use Rattle.engine.specs.Fine.{Fine, stateWith};
+ghost use Rattle.model.specs.Stored.{FineState};
 ghost use Rattle.reply.specs.Lines.{Replied};
 ghost use Rattle.session.specs.Blocks.{refusalText, Says, Runs};
 
@@ -41,14 +42,14 @@ pub fn say(number: u8, count: usize, out: &mut [u8]) -> usize
     requires { ⌜ bufferLimit ≤ length (now out) ⌝ }
     ensures { λ r. ⌜ Says number count (now (out .entry)) (now (out .exit)) r ⌝ }
 {
-    if number == 0 {
+    if number == ACCEPTED {
         return count;
     }
     put_refusal(number, out)
 }
 
 fn joined(volatile: Memory, permanent: Memory, level: u8, error: u8) -> State
-    ensures { λ r. ⌜ r ≡ stateWith volatile permanent level error ⌝ }
+    ensures { λ r. ⌜ r ≡ record { volatile = volatile; permanent = permanent; level = level; error = error } ⌝ }
 {
     State {
         volatile,
@@ -60,7 +61,7 @@ fn joined(volatile: Memory, permanent: Memory, level: u8, error: u8) -> State
 
 // Whole lines from the start of a block on, while there is room for an answer.
 pub fn run_lines(s: State, block: &[u8], out: &mut [u8]) -> Ran
-    requires { ⌜ Fine s ⌝ }
+    requires { ⌜ FineState s ⌝ }
     requires { ⌜ bufferLimit ≤ length (now out) ⌝ }
     ensures { λ r. ⌜ Runs s (now (block .entry)) (now (out .entry)) (now (out .exit)) r ⌝ }
 {
@@ -70,7 +71,7 @@ pub fn run_lines(s: State, block: &[u8], out: &mut [u8]) -> Ran
     let mut error = s.error;
     let mut used = 0;
     let mut written = 0;
-    while ROOM <= out.len() - written {
+    while BUFFER_LIMIT <= out.len() - written {
         let end = line_end(block, used);
         if end == block.len() {
             break;

@@ -2,7 +2,7 @@
 use Prim.Native.Nat.{ℕ, _+_, _*_, _-_, _/_, _^_, _≤_, _<_}
 use mathlib.Core.Path.{_≡_, refl, ap, _∙_}
 use mathlib.Core.Bool.{Bool, true, false, cond, _&&_}
-use native.Mathlib.Nat.{mul-le-mul-right, pow-suc, pow-le-pow-right}
+use native.Mathlib.Nat.{mul-le-mul-right, pow-suc}
 use native.Mathlib.Numerals.{add-one}
 use native.Mathlib.Omega.{arith}
 use borrow.Author.Tests.{leb-true, ltb-true}
@@ -10,6 +10,7 @@ use lib.Dec.{eqb, leb, ltb}
 use Rattle.model.specs.Limits.{wholeDigits, decimals, million}
 use Rattle.model.specs.Words.{digit}
 use Rattle.model.proofs.Basics.{and-split}
+use Rattle.model.proofs.Digits.{ten-monotone}
 use Rattle.text.specs.declared.numbers.Num.{Num}
 use Rattle.text.specs.declared.numbers.Num.the-variants.{Start, Minus, Whole, Point, Part, Wrong}
 use Rattle.text.specs.Numbers.{first, part, stepped, bound, Good}
@@ -26,9 +27,6 @@ digit-is b e = let s = and-split (leb 48 b) (leb b 57) e in record { low = leb-t
 pub digit-weight : (b w : ℕ) → digit b ≡ true → (b - 48) * w ≤ 9 * w
 digit-weight b w e = let d = digit-is b e in mul-le-mul-right w (omega arith)
 
-pub pow-le : (k : ℕ) → k ≤ wholeDigits → 10 ^ k ≤ 10 ^ wholeDigits
-pow-le k h = pow-le-pow-right (omega arith) h
-
 -- ---- one byte
 
 good-first : (g : Bool) (b : ℕ) (t : Bool) → digit b ≡ t → Good (cond t (Whole g 1 (b - 48)) Wrong)
@@ -41,7 +39,7 @@ good-part g v w b h true e = omega (arith, digit-weight b w e)
 
 good-whole : (g : Bool) (k v b : ℕ) → k ≤ wholeDigits → v < 10 ^ k → (t u : Bool) → (digit b && ltb k wholeDigits) ≡ u →
     Good (cond t (Point g (v * million)) (cond u (Whole g (k + 1) (10 * v + (b - 48))) Wrong))
-good-whole g k v b hk hv true u e = omega (arith, pow-le k hk)
+good-whole g k v b hk hv true u e = omega (arith, ten-monotone k wholeDigits hk)
 good-whole g k v b hk hv false false e = tt
 good-whole g k v b hk hv false true e =
     let s = and-split (digit b) (ltb k wholeDigits) e in

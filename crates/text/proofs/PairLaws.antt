@@ -2,7 +2,7 @@
 use Prim.Native.Nat.{ℕ, zero, suc, _<_}
 use mathlib.Core.Path.{_≡_, refl, sym, ap, _∙_}
 use mathlib.Core.List.{List, [], _∷_, map}
-use mathlib.Core.Bool.{Bool, true, false, cond, _&&_}
+use mathlib.Core.Bool.{Bool, true, false, cond, not, _&&_}
 use mathlib.Core.Logic.{⊎-elim}
 use mathlib.Core.Option.{Option, none, some}
 use native.Mathlib.Decide.{ℕ-discrete}
@@ -10,18 +10,33 @@ use native.Mathlib.Omega.{arith}
 use lib.IntN.{ℤ, pos}
 use lib.ListN.{length, getD, set, replicate}
 use lib.Seq.{getD-set-same, getD-set-other}
-use Rattle.model.specs.Lists.{same, least, there?}
+use borrow.Author.Tests.{leb-true}
+use lib.Dec.{leb}
+use Rattle.model.specs.Lists.{same, least, there?, between}
 use Rattle.model.specs.declared.Kind.{Kind}
+use Rattle.model.specs.declared.Turns.{Turns}
+use Rattle.model.specs.declared.Vec3.{Vec3}
 use Rattle.model.specs.Request.{Reading, malformed, beyond, define, asksChange, definition, Values, noValues, axis, axisWords, firstAxis, mayCome, pairs, given, inRange, offsetsOf, turnsOf}
+use Rattle.model.specs.Told.{tells, refuses}
 use Rattle.model.specs.Words.{legalName, number, offset?, angle?}
 use Rattle.model.proofs.Basics.{true-false, and-split, either, least-now, least-later}
-use Rattle.text.specs.Pairs.{refusedPairs, six, ranged, answered, pairsRead, readingOf, valuesOf, mayTake}
+use Rattle.text.specs.Pairs.{six, ranged, answered, pairsRead, valuesOf}
+use Rattle.text.specs.Readings.{readingTold}
 
 -- ---- the place of a text in a list of texts
 
 unfoldable pub placeIn : List (List ℕ) → List ℕ → ℕ
 placeIn [] w = 0
 placeIn (t ∷ ts) w = cond (same w t) 0 (suc (placeIn ts w))
+
+module _ (t : List ℕ) (ts : List (List ℕ)) (w : List ℕ) where
+  pub place-hit : same w t ≡ true → placeIn (t ∷ ts) w ≡ 0
+  unfolding placeIn
+  place-hit e = rw e
+
+  pub place-miss : same w t ≡ false → placeIn (t ∷ ts) w ≡ suc (placeIn ts w)
+  unfolding placeIn
+  place-miss e = rw e
 
 least-place : (ts : List (List ℕ)) (w : List ℕ) → least (length ts) (λ i. same w (getD ts i [])) ≡ placeIn ts w
 unfolding placeIn least
@@ -66,7 +81,7 @@ ranged-six l = rw (given-map l 0, given-map l 1, given-map l 2, given-map l 3, g
 -- ---- the values while they are read
 
 -- an axis that has come has a value
-came-there : (came : List Bool) (values : List ℤ) (i : ℕ) → length came ≡ length values → there? (getD (valuesOf came values) i none) ≡ getD came i false
+pub came-there : (came : List Bool) (values : List ℤ) (i : ℕ) → length came ≡ length values → there? (getD (valuesOf came values) i none) ≡ getD came i false
 unfolding valuesOf there?
 came-there [] zs i h = refl
 came-there (c ∷ cs) [] i h = absurd (omega arith)
@@ -113,9 +128,12 @@ ranged-values came values h f = ranged-same (valuesOf came values) (map some val
 
 -- ---- one pair
 
-pub may-is : (k : Kind) (came : List Bool) (values : List ℤ) (i : ℕ) → length came ≡ length values → mayCome k i (valuesOf came values) ≡ mayTake (firstAxis k) i came
+-- an axis that may come is one of the six
+pub may-axis : (k : Kind) (i : ℕ) (vs : Values) → mayCome k i vs ≡ true → i < 6
 unfolding mayCome
-may-is k came values i h = rw (came-there came values i h)
+may-axis k i vs e =
+    let s = and-split (between (firstAxis k) 5 i) (not (there? (getD vs i none))) e .0 in
+    omega (arith, leb-true i 5 (and-split (leb (firstAxis k) i) (leb i 5) s .1))
 
 pub pairs-none : (k : Kind) (vs : Values) → pairs k [] vs ≡ some vs
 unfolding pairs
@@ -170,19 +188,22 @@ defined-turn : (k : Kind) (n : List ℕ) (ws : List (List ℕ)) → definition k
 unfolding definition defined
 defined-turn k n ws = refl
 
-defined-is : (k : Kind) (n : List ℕ) (o : Option Values) → defined k n true o ≡ readingOf k n (answered o)
+-- what is asked with the values of the pairs
+abbrev pub defining : Kind → List ℕ → Vec3 × Turns → Reading
+defining k n p = asksChange (define k n (p .0) (p .1))
+
+defined-is : (k : Kind) (n : List ℕ) (o : Option Values) → defined k n true o ≡ readingTold (defining k n) (answered o)
 unfolding defined answered ranged
 defined-is k n none = refl
 defined-is k n (some vs) = pick (inRange vs)
   where
     pick : (t : Bool) →
-        cond t (asksChange (define k n (offsetsOf vs) (turnsOf vs))) beyond ≡
-        readingOf k n (cond t (record { malformed = false; beyond = false; offset = offsetsOf vs; turns = turnsOf vs }) (refusedPairs false true))
+        cond t (defining k n (offsetsOf vs, turnsOf vs)) beyond ≡ readingTold (defining k n) (cond t (tells (offsetsOf vs, turnsOf vs)) (refuses 6))
     pick true = refl
     pick false = refl
 
 -- the answer on the pairs decides what a definition with a legal name asks
-pub definition-read : (k : Kind) (n : List ℕ) (ws : List (List ℕ)) → legalName n ≡ true → definition k (n ∷ ws) ≡ readingOf k n (pairsRead k ws)
+pub definition-read : (k : Kind) (n : List ℕ) (ws : List (List ℕ)) → legalName n ≡ true → definition k (n ∷ ws) ≡ readingTold (defining k n) (pairsRead k ws)
 definition-read k n ws e = defined-turn k n ws ∙ ap (λ (t : Bool). defined k n t (pairs k ws noValues)) e ∙ defined-is k n (pairs k ws noValues)
 
 pub definition-unnamed : (k : Kind) (n : List ℕ) (ws : List (List ℕ)) → legalName n ≡ false → definition k (n ∷ ws) ≡ malformed

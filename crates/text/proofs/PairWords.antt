@@ -9,6 +9,7 @@ use lib.IntN.{ℤ}
 use lib.ListN.{drop, set}
 use Rattle.model.specs.declared.Kind.{Kind}
 use Rattle.model.specs.Request.{Values, axis, mayCome, pairs}
+use Rattle.model.proofs.Basics.{none-some}
 use Rattle.text.specs.declared.numbers.Num.the-variants.{Start}
 use Rattle.text.specs.declared.words.Word.{Word}
 use Rattle.text.specs.Cursor.{run, nextWord, wordOf, wordsFrom}
@@ -44,7 +45,7 @@ module _ (k : Kind) (line : List ℕ) (at : ℕ) (a : Word) (e : a ≡ nextWord 
     -- a pair is read
     module _ (z : ℤ) (v : valued (folded Start (rest line s)) ≡ some z) where
       full : (r : ℕ) → run (drop s line) ≡ r → 0 < run (drop s line)
-      full zero q = let y : none ≡ some z = ap valued (sym (fold-end line s Start q)) ∙ v in let w : _≡_ {A = ℕ} 0 1 = cc in absurd (omega arith)
+      full zero q = none-some (ap valued (sym (fold-end line s Start q)) ∙ v)
       full (suc r) q = omega arith
 
       pub line-on : mayCome k (axis (wordOf line a)) vs ≡ true →

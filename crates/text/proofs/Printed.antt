@@ -4,7 +4,6 @@ use mathlib.Core.Path.{_≡_, refl, sym, ap, _∙_}
 use mathlib.Core.List.{List, [], _∷_, _++_, append-nil}
 use mathlib.Core.Bool.{true}
 use mathlib.Core.Option.{some}
-use native.Mathlib.Decide.{decLt}
 use native.Mathlib.Nat.{mul-comm, mul-assoc, mul-one, add-mul, mod-one, mod-lt, mod-eq-of-lt, div-add-mod', add-mul-mod-self-right, mul-le-mul-right, pow-suc, one-le-pow}
 use native.Mathlib.Omega.{arith}
 use borrow.Author.Tests.{ne-eqb, le-leb}
@@ -12,10 +11,10 @@ use lib.IntN.{ℤ, pos, negsuc, negℤ, natAbs}
 use lib.ListN.{length}
 use Rattle.model.specs.Limits.{wholeDigits, decimals, million}
 use Rattle.model.specs.Lists.{all, pieces, ahead, joined}
-use Rattle.model.specs.Reply.{lastDigits, decimal, value}
+use Rattle.model.specs.Reply.{lastDigits, digitsOf, decimal, value}
 use Rattle.model.specs.Words.{digit, digits?, spelled, magnitude, positive, negative, number}
 use Rattle.model.proofs.Basics.{true-false, and-split, and-join}
-use Rattle.model.proofs.Digits.{length-digits, decimal-one, decimal-digits}
+use Rattle.model.proofs.Digits.{length-digits, digits-above, decimal-short}
 use Rattle.text.specs.Numbers.{bound}
 use Rattle.text.proofs.NumberLaws.{weigh, Cut, whole, more, cut}
 use Rattle.text.proofs.NumberRange.{digit-is}
@@ -115,35 +114,24 @@ module _ (k q r : ℕ) (l : 1 ≤ k) (h : k ≤ wholeDigits) (hq : q < 10 ^ k) (
 -- ---- as many digits as a whole part has
 
 record Places (q : ℕ) : Type 0 where
-  count : ℕ
-  some-digit : 1 ≤ count
-  enough : count ≤ wholeDigits
-  below : q < 10 ^ count
-  are : decimal q ≡ lastDigits count q
+  some-digit : 1 ≤ digitsOf q
+  enough : digitsOf q ≤ wholeDigits
 
 places : (q : ℕ) → q < 10 ^ wholeDigits → Places q
-places q h = ten (decLt q 10) (decLt q 100) (decLt q 1000)
-  where
-    more : (k : ℕ) → suc k ≤ wholeDigits → 10 ^ k ≤ q → q < 10 ^ suc k → Places q
-    more k e a l = record { count = suc k; some-digit = omega arith; enough = e; below = l; are = decimal-digits k q a l }
-
-    ten : Dec (q < 10) → Dec (q < 100) → Dec (q < 1000) → Places q
-    ten (yes l) b c = record { count = 1; some-digit = omega arith; enough = omega arith; below = l; are = decimal-one q l }
-    ten (no a) (yes l) c = more 1 (omega arith) (omega arith) l
-    ten (no a) (no b) (yes l) = more 2 (omega arith) (omega arith) l
-    ten (no a) (no b) (no c) = more 3 (omega arith) (omega arith) h
+unfolding decimal
+places q h = record { some-digit = unfold digitsOf in omega arith; enough = omega (arith, decimal-short wholeDigits q (omega arith) h, length-digits (digitsOf q) q) }
 
 -- every value in whole millionths with at most four digits before the point
 pub number-value : (z : ℤ) → natAbs z < bound → number (value z) ≡ some z
-unfolding value joined
+unfolding value joined decimal
 number-value (pos n) h =
     let q = n / million in
     let p = places q (omega arith) in
-    rw (p .are, append-nil (lastDigits decimals (n % million)))
-    (number-positive (p .count) q (n % million) (p .some-digit) (p .enough) (p .below) (omega arith) ∙ ap (λ (m : ℕ). some (pos m)) (omega arith))
+    rw (append-nil (lastDigits decimals (n % million)))
+    (number-positive (digitsOf q) q (n % million) (p .some-digit) (p .enough) (digits-above q) (omega arith) ∙ ap (λ (m : ℕ). some (pos m)) (omega arith))
 number-value (negsuc n) h =
     let q = suc n / million in
     let p = places q (omega arith) in
     let e : q * million + suc n % million ≡ suc n = omega arith in
-    rw (p .are, append-nil (lastDigits decimals (suc n % million)))
-    (number-negative (p .count) q (suc n % million) (p .some-digit) (p .enough) (p .below) (omega arith) ∙ ap (λ (m : ℕ). some (negℤ (pos m))) e)
+    rw (append-nil (lastDigits decimals (suc n % million)))
+    (number-negative (digitsOf q) q (suc n % million) (p .some-digit) (p .enough) (digits-above q) (omega arith) ∙ ap (λ (m : ℕ). some (negℤ (pos m))) e)

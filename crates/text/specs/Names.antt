@@ -5,6 +5,7 @@ use mathlib.Core.Bool.{true, false, cond}
 use lib.ListN.{length, replicate}
 use Rattle.model.specs.Limits.{nameLimit}
 use Rattle.model.specs.declared.Name.{Name}
+use Rattle.model.specs.Stored.{emptyName}
 use Rattle.model.specs.Words.{legalName}
 use Rattle.text.specs.declared.names.NameRead.{NameRead}
 
@@ -12,7 +13,7 @@ abbrev pub stored : List ℕ → Name
 stored w = record { bytes = w ++ replicate (nameLimit - length w) 0; len = length w }
 
 abbrev pub noName : NameRead
-noName = record { ok = false; name = record { bytes = replicate nameLimit 0; len = 0 } }
+noName = record { ok = false; name = emptyName }
 
 unfoldable pub nameRead : List ℕ → NameRead
 nameRead w = cond (legalName w) (record { ok = true; name = stored w }) noName

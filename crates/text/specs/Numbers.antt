@@ -6,6 +6,7 @@ use mathlib.Core.Option.{Option, none, some}
 use lib.Dec.{eqb, ltb}
 use lib.IntN.{ℤ}
 use Rattle.model.specs.Limits.{wholeDigits, decimals, million}
+use Rattle.model.specs.Told.{Told, tells, refuses, orNumber}
 use Rattle.model.specs.Words.{digit}
 use Rattle.text.specs.declared.numbers.Num.{Num}
 use Rattle.text.specs.declared.numbers.Num.the-variants.{Start, Minus, Whole, Point, Part, Wrong}
@@ -55,10 +56,14 @@ valued (Point g v) = none
 valued (Part g v w) = some (withSign g v)
 valued Wrong = none
 
--- what an answer says
-abbrev pub optionOf : Value → Option ℤ
-optionOf (Millionths z) = some z
-optionOf Malformed = none
+-- what is told of the bytes so far, if they are the whole word: the number read, or 5
+abbrev pub numTold : Num → Told ℤ
+numTold n = orNumber 5 (valued n)
+
+-- and by an answer
+abbrev pub valueTold : Value → Told ℤ
+valueTold (Millionths z) = tells z
+valueTold Malformed = refuses 5
 
 -- ---- the ranges of what was read so far
 

@@ -1,42 +1,37 @@
 -- What axis pairs say, as an answer of the code. 5 for the form of all the pairs stands before 6 for a value.
 use Prim.Native.Nat.{ℕ}
 use mathlib.Core.List.{List, [], _∷_}
-use mathlib.Core.Bool.{Bool, true, false, cond, not, _&&_}
+use mathlib.Core.Bool.{Bool, cond}
 use mathlib.Core.Option.{Option, none, some}
-use lib.IntN.{ℤ, pos}
-use lib.ListN.{getD}
+use lib.IntN.{ℤ}
 use Rattle.model.specs.declared.Kind.{Kind}
-use Rattle.model.specs.Lists.{between}
-use Rattle.model.specs.Request.{Reading, malformed, beyond, define, asksChange, Values, noValues, pairs, inRange, offsetsOf, turnsOf}
+use Rattle.model.specs.declared.Turns.{Turns}
+use Rattle.model.specs.declared.Vec3.{Vec3}
+use Rattle.model.specs.Request.{Values, noValues, pairs, inRange, offsetsOf, turnsOf}
+use Rattle.model.specs.Told.{Told, tells, refuses}
 use Rattle.text.specs.declared.pairs.Pairs.{Pairs}
+use Rattle.text.specs.declared.pairs.Pairs.the-variants.{Malformed, Beyond, Kept}
 
 -- ---- the answer
 
--- number 5 or 6; the values are of no account
-abbrev pub refusedPairs : Bool → Bool → Pairs
-refusedPairs five six =
-    record {
-      malformed = five;
-      beyond = six;
-      offset = record { x = pos 0; y = pos 0; z = pos 0 };
-      turns = record { u = 0; v = 0; w = 0 };
-    }
+-- [A line; Errors 5, 6] the number of each case, and the offsets and turns that are kept
+abbrev pub pairsTold : Pairs → Told (Vec3 × Turns)
+pairsTold Malformed = refuses 5
+pairsTold Beyond = refuses 6
+pairsTold (Kept t u) = tells (t, u)
 
--- well-formed pairs
-unfoldable pub ranged : Values → Pairs
-ranged vs = cond (inRange vs) (record { malformed = false; beyond = false; offset = offsetsOf vs; turns = turnsOf vs }) (refusedPairs false true)
+-- [Error 6] well-formed pairs
+unfoldable pub ranged : Values → Told (Vec3 × Turns)
+ranged vs = cond (inRange vs) (tells (offsetsOf vs, turnsOf vs)) (refuses 6)
 
-unfoldable pub answered : Option Values → Pairs
-answered none = refusedPairs true false
+-- [A line] malformed ones are 5, whatever their values
+unfoldable pub answered : Option Values → Told (Vec3 × Turns)
+answered none = refuses 5
 answered (some vs) = ranged vs
 
 -- the words of the pairs
-abbrev pub pairsRead : Kind → List (List ℕ) → Pairs
+abbrev pub pairsRead : Kind → List (List ℕ) → Told (Vec3 × Turns)
 pairsRead k ws = answered (pairs k ws noValues)
-
--- what a definition with a legal name asks, by the answer on its pairs
-abbrev pub readingOf : Kind → List ℕ → Pairs → Reading
-readingOf k n p = cond (p .malformed) malformed (cond (p .beyond) beyond (asksChange (define k n (p .offset) (p .turns))))
 
 -- ---- the values while they are read
 
@@ -49,7 +44,3 @@ unfoldable pub valuesOf : List Bool → List ℤ → Values
 valuesOf [] zs = []
 valuesOf (c ∷ cs) [] = []
 valuesOf (c ∷ cs) (z ∷ zs) = cond c (some z) none ∷ valuesOf cs zs
-
--- an axis may come: the command has it, and it has not come
-abbrev pub mayTake : ℕ → ℕ → List Bool → Bool
-mayTake first i came = between first 5 i && not (getD came i false)

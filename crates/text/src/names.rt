@@ -2,6 +2,8 @@
 use super::words::Word;
 use super::words::between;
 use super::words::upper;
+use facts::limits::NAME_LIMIT;
+use facts::names::no_name;
 use model::Name;
 ghost use mathlib.Core.Path.{_≡_};
 ghost use Rattle.model.specs.Lists.{same};
@@ -9,31 +11,24 @@ ghost use Rattle.model.specs.Words as model;
 ghost use Rattle.text.specs.Cursor.{wordOf, Within};
 ghost use Rattle.text.specs.Names.{nameRead, noName};
 
-const NAME_LIMIT: usize = 16;
-
 // The name that a word spells, if it is a legal one. Bytes past the last one are 0.
 pub struct NameRead {
     pub ok: bool,
     pub name: Name,
 }
 
-fn no_name() -> NameRead
+fn illegal() -> NameRead
     ensures { λ r. ⌜ r ≡ noName ⌝ }
 {
-    NameRead {
-        ok: false,
-        name: Name {
-            bytes: [0u8; NAME_LIMIT],
-            len: 0,
-        },
-    }
+    let name = no_name();
+    NameRead { ok: false, name }
 }
 
 // Capitals, digits and underscores.
 pub fn name_byte(b: u8) -> bool
     ensures { λ r. ⌜ r ≡ model.nameByte b ⌝ }
 {
-    between(65, 90, b) | between(48, 57, b) | (b == 95)
+    between(b'A', b'Z', b) | between(b'0', b'9', b) | (b == b'_')
 }
 
 pub fn read_name(line: &[u8], w: Word) -> NameRead
@@ -43,13 +38,13 @@ pub fn read_name(line: &[u8], w: Word) -> NameRead
     let start = w.start;
     let n = w.end - start;
     if n == 0 {
-        return no_name();
+        return illegal();
     }
     if NAME_LIMIT < n {
-        return no_name();
+        return illegal();
     }
-    if !between(65, 90, upper(line[start])) {
-        return no_name();
+    if !between(b'A', b'Z', upper(line[start])) {
+        return illegal();
     }
     let mut bytes = [0u8; NAME_LIMIT];
     let mut i = 0;
@@ -57,7 +52,7 @@ pub fn read_name(line: &[u8], w: Word) -> NameRead
         let at = start + i;
         let b = upper(line[at]);
         if !name_byte(b) {
-            return no_name();
+            return illegal();
         }
         bytes[i] = b;
         i += 1;

@@ -1,16 +1,14 @@
 // A number, byte by byte: an optional minus, digits, and perhaps a point and decimals, into whole millionths.
 use super::values::signed;
 use super::words::between;
+use facts::limits::MILLION;
+use facts::limits::WHOLE_DIGITS;
 use signed::wide;
 ghost use mathlib.Core.Path.{_≡_};
-ghost use Rattle.text.specs.Numbers.{part, first, stepped, Good, wrong, valued, optionOf};
+ghost use Rattle.text.specs.Numbers.{part, first, stepped, Good, wrong, numTold, valueTold};
 
-// Digits before the point.
-const WHOLE_DIGITS: u8 = 4;
-// One, in millionths.
-const MILLION: u64 = 1000000;
 // The first decimal of one, in millionths.
-const FIRST_DECIMAL: u64 = 100000;
+const FIRST_DECIMAL: u64 = MILLION / 10;
 
 // What the bytes of a number read so far are.
 pub enum Num {
@@ -25,7 +23,7 @@ pub enum Num {
     Wrong,
 }
 
-// What a whole word says, in millionths.
+// What a whole word says: a number, in millionths, or 5.
 pub enum Value {
     Millionths(i64),
     Malformed,
@@ -34,8 +32,8 @@ pub enum Value {
 fn first_digit(minus: bool, b: u8) -> Num
     ensures { λ r. ⌜ r ≡ first minus b ⌝ }
 {
-    if between(48, 57, b) {
-        return Num::Whole(minus, 1, wide(b - 48));
+    if between(b'0', b'9', b) {
+        return Num::Whole(minus, 1, wide(b - b'0'));
     }
     Num::Wrong
 }
@@ -44,12 +42,12 @@ fn whole_digit(minus: bool, k: u8, v: u64, b: u8) -> Num
     requires { ⌜ Good (Num.Whole minus k v) ⌝ }
     ensures { λ r. ⌜ r ≡ stepped (Num.Whole minus k v) b ⌝ }
 {
-    if b == 46 {
+    if b == b'.' {
         return Num::Point(minus, v * MILLION);
     }
-    if between(48, 57, b) {
+    if between(b'0', b'9', b) {
         if k < WHOLE_DIGITS {
-            return Num::Whole(minus, k + 1, 10 * v + wide(b - 48));
+            return Num::Whole(minus, k + 1, 10 * v + wide(b - b'0'));
         }
     }
     Num::Wrong
@@ -59,8 +57,8 @@ fn part_digit(minus: bool, v: u64, w: u64, b: u8) -> Num
     requires { ⌜ Good (Num.Part minus v w) ⌝ }
     ensures { λ r. ⌜ r ≡ part minus v w b ⌝ }
 {
-    if between(48, 57, b) {
-        return Num::Part(minus, v + wide(b - 48) * w, w / 10);
+    if between(b'0', b'9', b) {
+        return Num::Part(minus, v + wide(b - b'0') * w, w / 10);
     }
     Num::Wrong
 }
@@ -72,7 +70,7 @@ pub(crate) fn step(n: Num, b: u8) -> Num
 {
     match n {
         Num::Start => {
-            if b == 45 {
+            if b == b'-' {
                 Num::Minus
             } else {
                 first_digit(false, b)
@@ -108,7 +106,7 @@ pub(crate) fn is_wrong(n: Num) -> bool
 
 pub(crate) fn value_of(n: Num) -> Value
     requires { ⌜ Good n ⌝ }
-    ensures { λ r. ⌜ optionOf r ≡ valued n ⌝ }
+    ensures { λ r. ⌜ valueTold r ≡ numTold n ⌝ }
 {
     match n {
         Num::Start => Value::Malformed,

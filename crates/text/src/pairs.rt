@@ -11,54 +11,29 @@ use super::words::Word;
 use super::words::is_word;
 use super::words::next_word;
 use super::words::past;
+use facts::kinds::first_axis;
+use facts::limits::AXES;
 use model::Kind;
 use model::Turns;
 use model::Vec3;
 ghost use mathlib.Core.Path.{_≡_};
-ghost use mathlib.Core.List.{map};
+ghost use mathlib.Core.List.{List, map};
 ghost use mathlib.Core.Option.{some};
 ghost use Prim.Native.Nat.{_≤_};
+ghost use lib.IntN.{ℤ};
 ghost use lib.ListN.{length};
-ghost use Rattle.model.specs.Request.{axis, firstAxis, inRange};
+ghost use Rattle.model.specs.Request.{axis, mayCome, inRange};
 ghost use Rattle.text.specs.Cursor.{wordOf, wordsFrom, Within};
-ghost use Rattle.text.specs.Pairs.{refusedPairs, six, ranged, pairsRead, mayTake};
+ghost use Rattle.text.specs.Pairs.{pairsTold, six, ranged, pairsRead, valuesOf};
 
-// The axes X Y Z U V W.
-const AXES: usize = 6;
-
-// What axis pairs say: number 5, number 6, or the values as they are kept.
-pub struct Pairs {
-    pub malformed: bool,
-    pub beyond: bool,
-    pub offset: Vec3,
-    pub turns: Turns,
+// What axis pairs say: 5, 6, or the values as they are kept.
+pub enum Pairs {
+    Malformed,
+    Beyond,
+    Kept(Vec3, Turns),
 }
 
-fn refused(malformed: bool, beyond: bool) -> Pairs
-    ensures { λ r. ⌜ r ≡ refusedPairs malformed beyond ⌝ }
-{
-    Pairs {
-        malformed,
-        beyond,
-        offset: Vec3 { x: 0, y: 0, z: 0 },
-        turns: Turns { u: 0, v: 0, w: 0 },
-    }
-}
-
-// KSB has U V W only.
-fn first_axis(kind: Kind) -> usize
-    ensures { λ r. ⌜ r ≡ firstAxis kind ⌝ }
-{
-    match kind {
-        Kind::Ksd => 0,
-        Kind::Kst => 0,
-        Kind::Ksw => 0,
-        Kind::Ksb => 3,
-        Kind::Kld => 0,
-    }
-}
-
-// The place of an axis word; 6 for any other.
+// The place of an axis word; for any other the place behind them.
 fn axis_of(line: &[u8], w: Word) -> usize
     requires { ⌜ Within (now line) w ⌝ }
     ensures { λ r. ⌜ r ≡ axis (wordOf (now (line .entry)) w) ⌝ }
@@ -81,14 +56,14 @@ fn axis_of(line: &[u8], w: Word) -> usize
     if is_word(line, w, b"W") {
         return 5;
     }
-    6
+    AXES
 }
 
 // Whether the command has the axis and it has not come yet.
-fn may_take(first: usize, i: usize, came: [bool; AXES]) -> bool
-    ensures { λ r. ⌜ r ≡ mayTake first i came ⌝ }
+fn may_come(kind: Kind, i: usize, came: [bool; AXES]) -> bool
+    ensures { λ r. ⌜ ((values : List ℤ) → length values ≡ length came → r ≡ mayCome kind i (valuesOf came values)) ⌝ }
 {
-    if i < first {
+    if i < first_axis(kind) {
         return false;
     }
     if AXES <= i {
@@ -120,25 +95,21 @@ fn in_range(x: i64, y: i64, z: i64, u: i64, v: i64, w: i64) -> bool
 
 // Values of well-formed pairs, as they are kept.
 fn kept(x: i64, y: i64, z: i64, u: i64, v: i64, w: i64) -> Pairs
-    ensures { λ r. ⌜ r ≡ ranged (six x y z u v w) ⌝ }
+    ensures { λ r. ⌜ pairsTold r ≡ ranged (six x y z u v w) ⌝ }
 {
     if !in_range(x, y, z, u, v, w) {
-        return refused(false, true);
+        return Pairs::Beyond;
     }
-    Pairs {
-        malformed: false,
-        beyond: false,
-        offset: Vec3 { x, y, z },
-        turns: Turns {
-            u: quarter_turns(u),
-            v: quarter_turns(v),
-            w: quarter_turns(w),
-        },
-    }
+    let turns = Turns {
+        u: quarter_turns(u),
+        v: quarter_turns(v),
+        w: quarter_turns(w),
+    };
+    Pairs::Kept(Vec3 { x, y, z }, turns)
 }
 
 fn finished(values: [i64; AXES]) -> Pairs
-    ensures { λ r. ⌜ r ≡ ranged (map some values) ⌝ }
+    ensures { λ r. ⌜ pairsTold r ≡ ranged (map some values) ⌝ }
 {
     kept(
         values[0],
@@ -153,9 +124,8 @@ fn finished(values: [i64; AXES]) -> Pairs
 // The pairs from a place to the line's end. A malformed word ends the reading at once, so that 5 comes before 6 wherever the values stand.
 pub fn read_pairs(line: &[u8], from: usize, kind: Kind) -> Pairs
     requires { ⌜ from ≤ length (now line) ⌝ }
-    ensures { λ r. ⌜ r ≡ pairsRead kind (wordsFrom (now (line .entry)) from) ⌝ }
+    ensures { λ r. ⌜ pairsTold r ≡ pairsRead kind (wordsFrom (now (line .entry)) from) ⌝ }
 {
-    let first = first_axis(kind);
     let mut values = [0i64; AXES];
     let mut came = [false; AXES];
     let mut at = from;
@@ -165,14 +135,14 @@ pub fn read_pairs(line: &[u8], from: usize, kind: Kind) -> Pairs
             return finished(values);
         }
         let i = axis_of(line, a);
-        if !may_take(first, i, came) {
+        if !may_come(kind, i, came) {
             break;
         }
         at = past(line, a.end, true);
         let mut n = Num::Start;
-        'bytes: while at < line.len() {
+        while at < line.len() {
             let b = line[at];
-            if b == 32 {
+            if b == b' ' {
                 break;
             }
             n = step(n, b);
@@ -188,5 +158,5 @@ pub fn read_pairs(line: &[u8], from: usize, kind: Kind) -> Pairs
         values[i] = z;
         came[i] = true;
     }
-    refused(true, false)
+    Pairs::Malformed
 }

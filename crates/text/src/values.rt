@@ -1,4 +1,6 @@
 // Values in whole millionths: of a millimetre for X Y Z, of a degree for U V W.
+use facts::limits::OFFSET_LIMIT;
+use facts::limits::QUARTER_TURN;
 use signed::magnitude;
 use signed::negated;
 ghost use mathlib.Core.Path.{_≡_};
@@ -6,11 +8,6 @@ ghost use mathlib.Core.Bool.{true};
 ghost use Prim.Native.Nat.{_<_, _^_};
 ghost use Rattle.model.specs.Words.{offset?, angle?, quarters};
 ghost use Rattle.text.specs.Values.{withSign};
-
-// An own offset, either way.
-const OFFSET_LIMIT: u64 = 1000000000;
-// A quarter turn.
-const QUARTER_TURN: u64 = 90000000;
 
 pub(crate) fn signed(minus: bool, v: u64) -> i64
     requires { ⌜ v < 2 ^ 63 ⌝ }

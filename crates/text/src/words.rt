@@ -23,7 +23,7 @@ pub fn between(low: u8, high: u8, b: u8) -> bool
 pub fn upper(b: u8) -> u8
     ensures { λ r. ⌜ r ≡ model.upper b ⌝ }
 {
-    if between(97, 122, b) {
+    if between(b'a', b'z', b) {
         return b - 32;
     }
     b
@@ -36,7 +36,7 @@ pub(crate) fn past(line: &[u8], at: usize, spaces: bool) -> usize
 {
     let mut i = at;
     while i < line.len() {
-        if (line[i] == 32) != spaces {
+        if (line[i] == b' ') != spaces {
             return i;
         }
         i += 1;

@@ -4,8 +4,9 @@ use lib.ListN.{drop}
 use borrow.Author.Tests.{not-true, not-false}
 use Rattle.model.specs.WellFormed.{memoryFine}
 use Rattle.model.specs.Stored.{memoryOf}
-use Rattle.image.specs.Strict.{strictMemory}
+use Rattle.model.specs.Image.{readMemory}
 use Rattle.image.proofs.Answering.{refuses, accepts, unread, bytes-left, ill-formed, well-formed}
+use Rattle.model.proofs.Told.{told-value}
 use borrow.Author.Needs.{needs}
 use Rattle.image.proofs.read.Statement.{statement}
 use Rattle.image.proofs.read.Tie as tie
@@ -13,9 +14,9 @@ use Rattle.image.proofs.read.Tie as tie
 memory-there : (c : tie.Else1) → (
     let r = c .before .before in
     let b = r .before .before .args .bytes .now in
-    some (memoryOf (r .read-memory .result .memory), drop (r .read-memory .result .next) b) ≡ strictMemory b
+    readMemory b ≡ some (memoryOf (r .read-memory .result .memory), drop (r .read-memory .result .next) b)
     )
-memory-there c = let r = c .before .before in rw (not-false (r .read-memory .result .ok) (c .if1 .left)) at (r .read-memory .ensures .0)
+memory-there c = let r = c .before .before in told-value 14 _ _ (rw (not-false (r .read-memory .result .ok) (c .if1 .left)) at (r .read-memory .ensures .0))
 
 -- the memory that was read has shape, so the test is one of what it stands for
 judged : (c : tie.After-memory-fine) → c .memory-fine .result ≡ memoryFine (memoryOf (c .before .before .before .before .before .before .read-memory .result .memory))
@@ -30,7 +31,7 @@ refused-requires c κs = search needs
 returns : tie.Need-returns
 returns c =
     let r = c .before .before .before in
-    let e = rw (not-true (r .read-memory .result .ok) (c .before .if1 .taken)) at (r .read-memory .ensures .0) in
+    let e = told-value 14 _ _ (rw (not-true (r .read-memory .result .ok) (c .before .if1 .taken)) at (r .read-memory .ensures .0)) in
     refuses _ (c .refused .result) (c .refused .ensures) (unread _ e)
 
 refused-requires-2 : tie.Need-refused-requires-2

@@ -2,7 +2,7 @@ use native.Mathlib.Omega.{arith}
 use Rattle.model.specs.Image.{image}
 use Rattle.model.specs.Stored.{memoryOf}
 use Rattle.model.proofs.Image.Limits.{fits}
-use Rattle.image.proofs.Puts.{put-written}
+use Rattle.image.proofs.Left.{wrote-front}
 use borrow.Author.Needs.{needs}
 use Rattle.image.proofs.write.Statement.{statement}
 use Rattle.image.proofs.write.Tie as tie
@@ -17,7 +17,7 @@ returns : tie.Need-returns
 returns c =
     let w = c .before .before in
     let s = w .before .before .before in
-    put-written (image (memoryOf (s .args .m))) (s .args .out .now) _ _ (omega (arith, s .pre .2, fits (memoryOf (s .args .m)) (s .pre .1) .0)) (w .write-memory .ensures)
+    wrote-front (image (memoryOf (s .args .m))) (s .args .out .now) _ _ (omega (arith, s .pre .2, fits (memoryOf (s .args .m)) (s .pre .1) .0)) (w .write-memory .ensures)
 
 pub write-spec : {M : Type 1} → statement M
 write-spec = tie.close (tie.spec write-memory-requires same-length returns)

@@ -1,36 +1,36 @@
 -- `line` is document 01's step, and a state that is not well formed comes back with 1.
 use mathlib.Core.Path.{_≡_, sym, _∙_}
-use borrow.Author.Tests.{not-true, not-false}
 use Rattle.engine.proofs.Views.{fine-of, ill-line}
 use Rattle.machine.proofs.Calls.{line-fine}
 use borrow.Author.Needs.{needs}
 use Rattle.machine.proofs.line.Statement.{statement}
 use Rattle.machine.proofs.line.Tie as tie
-use Rattle.machine.proofs.line.Reads as reads
-use Rattle.machine.proofs.line.Lts as lts
-use Rattle.engine.proofs.line.obey.Reads as obey-reads
-use Rattle.memory.proofs.fine.state_fine.Reads as state-fine-reads
 
 state-fine-requires : tie.Need-state-fine-requires
 state-fine-requires c κs = search needs
 
-returns : tie.Need-returns
-returns c =
-    let start = c .before .before .before .before in
-    sym (ill-line (start .args .s) (sym (c .before .state-fine .ensures) ∙ not-true _ (c .if1 .taken)) (start .args .line .now) (start .args .reply .now))
-
 obey-requires : tie.Need-obey-requires
 obey-requires c κs =
     let start = c .before .before .before .before .before in
-    fine-of (start .args .s) (sym (c .before .before .state-fine .ensures) ∙ not-false _ (c .before .if1 .left))
+    fine-of (start .args .s) (sym (c .before .before .state-fine .ensures) ∙ c .before .if1 .taken)
 
 same-length : tie.Need-same-length
 same-length c = search needs
 
+returns : tie.Need-returns
+returns c =
+    let start = c .before .before .before .before .before .before .before .before in
+    let fine = fine-of (start .args .s) (sym (c .before .before .before .before .before .state-fine .ensures) ∙ c .before .before .before .before .if1 .taken) in
+    c .before .before .obey .ensures ∙ sym (line-fine (start .args .s) fine (start .args .line .now) (start .args .reply .now))
+
+refusing-requires : tie.Need-refusing-requires
+refusing-requires c κs = search needs
+
 returns-2 : tie.Need-returns-2
 returns-2 c =
-    let start = c .before .before .before .before .before .before .before .before in
-    c .before .before .obey .ensures ∙ sym (line-fine (start .args .s) (fine-of (start .args .s) (sym (c .before .before .before .before .before .state-fine .ensures) ∙ not-false _ (c .before .before .before .before .if1 .left))) (start .args .line .now) (start .args .reply .now))
+    let start = c .before .before .before .before .before in
+    rw (c .refusing .ensures) (sym (ill-line (start .args .s) (sym (c .before .before .state-fine .ensures) ∙ c .before .if1 .left) (start .args .line .now) (start .args .reply .now)))
 
 pub line-spec : {M : Type 1} → statement M
-line-spec = tie.close (tie.spec state-fine-requires returns obey-requires same-length returns-2)
+line-spec =
+    tie.close (tie.spec state-fine-requires obey-requires same-length returns refusing-requires returns-2)

@@ -3,18 +3,22 @@ use Rattle.machine.proofs.Calls.{start-taken, start-refused}
 use borrow.Author.Needs.{needs}
 use Rattle.machine.proofs.start_image.Statement.{statement}
 use Rattle.machine.proofs.start_image.Tie as tie
-use Rattle.machine.proofs.start_image.Reads as reads
-use Rattle.machine.proofs.start_image.Lts as lts
-use Rattle.image.proofs.read.Reads as read-reads
 
 read-requires : tie.Need-read-requires
 read-requires c κs = search needs
 
+started-requires : tie.Need-started-requires
+started-requires c κs = search needs
+
 returns : tie.Need-returns
-returns c = start-taken _ (c .before .before .read .result) (c .before .before .read .ensures) (c .if1 .taken)
+returns c =
+    let found = c .before .before .before .read in
+    rw (c .before .started .ensures) (start-taken _ (found .result) (found .ensures) (c .if1 .taken))
 
 returns-2 : tie.Need-returns-2
-returns-2 c = start-refused _ (c .before .before .read .result) (c .before .before .read .ensures) (c .if1 .left)
+returns-2 c =
+    let found = c .before .before .before .read in
+    rw (c .before .started .ensures) (start-refused _ (found .result) (found .ensures) (c .if1 .left))
 
 pub start-image-spec : {M : Type 1} → statement M
-start-image-spec = tie.close (tie.spec read-requires returns returns-2)
+start-image-spec = tie.close (tie.spec read-requires started-requires returns returns-2)

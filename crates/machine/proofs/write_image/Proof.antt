@@ -4,7 +4,8 @@ use borrow.Author.Tests.{not-true, not-false, lt-ltb, le-ltb}
 use Rattle.model.specs.Refusals.{short}
 use Rattle.model.specs.Stored.{stateOf}
 use Rattle.model.proofs.Memories.Fine.{state-of}
-use Rattle.engine.proofs.Views.{shape-parts, fine-of, ill-image}
+use Rattle.memory.proofs.Shape.{shape-parts}
+use Rattle.engine.proofs.Views.{fine-of, ill-image}
 use Rattle.machine.proofs.Calls.{image-refused, image-taken}
 use borrow.Author.Needs.{needs}
 use Rattle.machine.proofs.write_image.Statement.{statement}
@@ -17,16 +18,25 @@ use Rattle.memory.proofs.fine.state_fine.Reads as state-fine-reads
 state-fine-requires : tie.Need-state-fine-requires
 state-fine-requires c κs = search needs
 
+refusing-requires : tie.Need-refusing-requires
+refusing-requires c κs = search needs
+
 returns : tie.Need-returns
 returns c =
-    let start = c .before .before .before in
-    sym (ill-image (start .args .s) (sym (c .before .state-fine .ensures) ∙ not-true _ (c .if1 .taken)) (start .args .out .now))
+    let test = c .before in
+    let start = test .before .before .before in
+    rw (c .refusing .ensures) (sym (ill-image (start .args .s) (sym (test .before .state-fine .ensures) ∙ not-true _ (test .if1 .taken)) (start .args .out .now)))
+
+refusing-requires-2 : tie.Need-refusing-requires-2
+refusing-requires-2 c κs = search needs
 
 returns-2 : tie.Need-returns-2
 unfolding short
 returns-2 c =
-    let start = c .before .before .before .before in
-    image-refused (start .args .s) (fine-of (start .args .s) (sym (c .before .before .state-fine .ensures) ∙ not-false _ (c .before .if1 .left))) (start .args .out .now) (lt-ltb _ _ (c .if2 .taken))
+    let test = c .before .before in
+    let start = test .before .before .before in
+    let fine = fine-of (start .args .s) (sym (test .before .state-fine .ensures) ∙ not-false _ (test .if1 .left)) in
+    rw (c .refusing2 .ensures) (image-refused (start .args .s) fine (start .args .out .now) (lt-ltb _ _ (c .before .if2 .taken)))
 
 write-requires : tie.Need-write-requires
 write-requires c κs =
@@ -46,4 +56,13 @@ returns-3 c =
 
 pub write-image-spec : {M : Type 1} → statement M
 write-image-spec =
-    tie.close (tie.spec state-fine-requires returns returns-2 write-requires same-length returns-3)
+    tie.close
+    (tie.spec
+    state-fine-requires
+    refusing-requires
+    returns
+    refusing-requires-2
+    returns-2
+    write-requires
+    same-length
+    returns-3)

@@ -10,12 +10,13 @@ use borrow.Author.Tests.{leb-false}
 use lib.ListN.{length, set, length-set}
 use Rattle.model.specs.Types.{Kind, Enabled, OperatingPart, Single, Pair}
 use Rattle.model.specs.Limits.{maxSystems}
+use Rattle.model.specs.WellFormed.{ownFine}
 use Rattle.model.specs.Memory.{System, Memory, systemAt, blank, isUser, placeNamed, userNamed}
 use Rattle.model.specs.Refusals.{noRoom}
 use Rattle.model.specs.Effects.{withSystems, put}
 use Rattle.model.proofs.Basics.{either}
 use Rattle.model.proofs.Chains.Relink.{Misses, replaced-other, replaced-same, replaced-no-ring, added-length, added-old, added-new, added-no-ring}
-use Rattle.model.proofs.Memories.Fine.{Stands, Placed, ownFine, PartPlaced, EnabledPlaced, Systems, Fine, preds-within, blank-beyond, placed-within}
+use Rattle.model.proofs.Memories.Fine.{Stands, Placed, PartPlaced, EnabledPlaced, Systems, Fine, preds-within, blank-beyond, placed-within}
 use Rattle.model.proofs.Memories.Named.{place-stands, place-name, place-missing, user-place, user-none}
 
 -- ---- a list that has every system of another, at its place and of its type
@@ -169,9 +170,9 @@ module _ (m : Memory) (fine : Fine m) (s : System) (own : ownFine s ≡ true) (p
 
   pub put-fine :
       (isUser m (s .name) ≡ true → (s .kind ≡ userNamed m (s .name) .kind) × Misses (m .systems) (placeNamed (m .systems) (s .name)) (s .pred)) →
-      noRoom m (s .name) ≡ false →
+      noRoom (m .systems) (placeNamed (m .systems) (s .name)) ≡ false →
       Fine (put m s)
-  unfolding put noRoom
+  unfolding put noRoom isUser
   put-fine over room = ⊎-elim in-place last (either (isUser m (s .name)))
     where
       in-place : isUser m (s .name) ≡ true → Fine (put m s)

@@ -72,7 +72,7 @@ module _ (line b : List ℕ) (q : Query) (asked : reading line ≡ asks (list q)
       let o = query-taken st w line q asked b (eqb-true (refusal st line b) 0 e) in
       (ap (λ (o : Outcome). o .count) o, ap (λ (o : Outcome). o .buffer) o)
   query-parts st w false e =
-      let o = step-fine st line b w ∙ judged-refused st (refusal st line b) line b e in
+      let o = step-fine st line b w ∙ judged-refused st (refusal st line b) (reading line) b e in
       (ap (λ (o : Outcome). o .count) o, ap (λ (o : Outcome). o .buffer) o)
 
 lists-alike : (st st′ : State) → wellFormed st ≡ true → wellFormed st′ ≡ true → st′ .volatile ≡ st .volatile → ListsAlike st st′

@@ -79,12 +79,9 @@ ken-shows st w =
     let m = st .volatile in
     let f = fine-of m (state-of st w .volatile) in
     record {
-      operating = map (inGroup Operating) (operatingPlaces (m .enabled .operating));
-      orientational = inGroup Orientational (m .enabled .orientational);
-      levelling = inGroup Levelling (m .enabled .levelling);
-      one-or-pair = one-or-pair m f (m .enabled .operating) (f .enabled .operating);
-      base = allowed m f Ksb _ refl refl (m .enabled .orientational) (f .enabled .orientational);
-      level = allowed m f Kld _ refl refl (m .enabled .levelling) (f .enabled .levelling);
+      operating = one-or-pair m f (m .enabled .operating) (f .enabled .operating);
+      orientational = allowed m f Ksb _ refl refl (m .enabled .orientational) (f .enabled .orientational);
+      levelling = allowed m f Kld _ refl refl (m .enabled .levelling) (f .enabled .levelling);
       shown = query-replies st w (ascii "KEN?") enabledOnes ken-read refl refl;
     }
 

@@ -9,7 +9,7 @@ use lib.ListN.{length, set, length-set}
 use Rattle.model.specs.Lists.{any}
 use Rattle.model.specs.Memory.{System, Memory, State, systemAt, placeNamed, isUser, named, userNamed}
 use Rattle.model.specs.Chain.{hop}
-use Rattle.model.specs.Use.{inUse, nameInUse}
+use Rattle.model.specs.Use.{inUse, usedAt, nameInUse}
 use Rattle.model.specs.Request.{Change, Reading, reading, unknown, malformed, beyond, asks, change, list, lastError, define, link, copy, remove, enable, setLevel, save, restore, reset}
 use Rattle.model.specs.Words.{reserved}
 use Rattle.model.specs.Refusals.{absent, changeLadder, requestLadder, readingLadder}
@@ -111,7 +111,7 @@ module _ (m : Memory) (fine : Fine m) where
 
   -- a definition, a copy or a link: over a system that is not in use, or a new one
   pub still-put : (s : System) → nameInUse m (s .name) ≡ false → frames (put m s) ≡ frames m
-  unfolding put nameInUse
+  unfolding put usedAt isUser
   still-put s free = ⊎-elim over (λ u. rw u (still-added s)) (either (isUser m (s .name)))
     where
       over : isUser m (s .name) ≡ true → frames (put m s) ≡ frames m
@@ -130,7 +130,7 @@ module _ (m : Memory) (fine : Fine m) where
 
   pub still-gone : (a : List ℕ) → absent m a ≡ false → reserved a ≡ false → nameInUse m a ≡ false →
       frames (removedAt m (placeNamed (m .systems) a)) ≡ frames m
-  unfolding nameInUse
+  unfolding usedAt isUser
   still-gone a p r free = let u = user-of a p r in still-removed (placeNamed (m .systems) a) (u .0) (rw (u .2) at free)
 
 -- ---- a line

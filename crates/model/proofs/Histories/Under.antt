@@ -1,4 +1,4 @@
--- The checklist's third item: a system that is enabled, or on the chain of an enabled one, is neither redefined, linked, copied over nor removed.
+-- The checklist's third item: what is in use is neither redefined, linked, copied over nor removed.
 use Prim.Native.Nat.{ℕ, suc, _≤_, _<_}
 use mathlib.Core.Path.{_≡_, sym, ap, _∙_}
 use mathlib.Core.List.{List, [], _∷_, _++_, map}
@@ -13,7 +13,7 @@ use Rattle.model.specs.Types.{Group, Operating, Orientational, Levelling
 use Rattle.model.specs.Lists.{any, same}
 use Rattle.model.specs.Memory.{System, Memory, State, Ref, nameOf, placeNamed, isUser}
 use Rattle.model.specs.Chain.{hop, steps, chain, onChain}
-use Rattle.model.specs.Use.{operatingPlaces, inGroup, enabledRefs, inUse, nameInUse}
+use Rattle.model.specs.Use.{operatingPlaces, inGroup, enabledRefs, inUse, usedAt, nameInUse}
 use Rattle.model.specs.WellFormed.{wellFormed}
 use Rattle.model.specs.Request.{Change, reading, asks, change, define, link, copy, remove, enable, setLevel, save, restore, reset}
 use Rattle.model.specs.Refusals.{Rung, refusal, ladder, readingLadder, requestLadder, changeLadder}
@@ -66,7 +66,7 @@ module _ (m : Memory) (fine : Fine m) (n : List ℕ) (found : isUser m n ≡ tru
       (or-split (same n (nameOf l (inGroup g q))) (any (same n) (map (λ x. nameOf l (inGroup g x)) (chain l q))) e)
 
   pub under-in-use : underEnabled m n ≡ true → nameInUse m n ≡ true
-  unfolding underEnabled frames heldPart nameInUse inUse enabledRefs any
+  unfolding underEnabled frames heldPart usedAt isUser inUse enabledRefs any
   under-in-use u = and-join found (parts (m .enabled .operating) (enabled-within m fine .operating) u)
     where
       r : ℕ

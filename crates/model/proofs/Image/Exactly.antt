@@ -1,127 +1,135 @@
 -- The saved image (specs/Image.antt): what a well-formed memory writes is read back, and nothing else is accepted.
-use Prim.Native.Nat.{ℕ, _/_, _%_, _≤_}
-use mathlib.Core.Path.{_≡_, refl, ap, _∙_}
+use Prim.Native.Nat.{ℕ, zero, suc, _+_, _≤_}
+use mathlib.Core.Path.{_≡_, refl, sym, ap, _∙_}
 use mathlib.Core.List.{List, [], _∷_, _++_, map, append-assoc, append-nil}
 use mathlib.Core.Bool.{true, _&&_}
 use mathlib.Core.Option.{Option, none, some}
-use native.Mathlib.Nat.{add-zero, mul-mod-right, mul-div-cancel-left, mul-add-mod-self-left, mul-add-div}
 use native.Mathlib.Omega.{arith}
-use lib.IntN.{ℤ, pos, negsuc}
-use lib.ListN.{length, length-append}
-use lib.Seq.{take-append-seam, drop-append-seam}
-use borrow.Author.Tests.{le-leb}
-use Rattle.model.specs.Types.{Kind, Ksd, Kst, Ksw, Ksb, Kld, OperatingPart, Single, Pair}
-use Rattle.model.specs.Lists.{joined, same}
+use lib.Dec.{eqb, leb}
+use lib.ListN.{length, getD}
+use borrow.Author.Tests.{le-leb, eqb-true}
+use Rattle.model.specs.Types.{Kind, Ksd, Kst, Ksw, Ksb, Kld, Enabled, OperatingPart, Single, Pair}
+use Rattle.model.specs.Lists.{all, joined, table, none?}
 use Rattle.model.specs.Limits.{maxSystems}
-use Rattle.model.specs.Kinds.{kinds, ofKind}
 use Rattle.model.specs.Memory.{System, Memory}
-use Rattle.model.specs.WellFormed.{memoryFine}
+use Rattle.model.specs.WellFormed.{isKind, systemFine, operatingFine, enabledFine, memoryFine}
+use Rattle.model.specs.Image.{edition, whole, numbers, systemBytes, enabledBytes, image, give, upTo, several, mostByte, readSystem, readSystems, enabledFrom, readEnabled, readContents, readMemory, whollyRead, accepted}
 use Rattle.model.specs.ImageClaims.{ReadsBack, AcceptedExactly, OneMemory}
-use Rattle.model.specs.Image.{whole, signedCode, numbers, systemBytes, partNumbers, enabledBytes, image, Reader, _>>=_, give, readWhole, readBytes, signedOf, kindOf, readSystem, readSystems, readPart, readMemory, imageOf?, accepted}
-use Rattle.model.proofs.Basics.{and-split, same-refl, same→≡}
-use Rattle.model.proofs.Image.Readers.{then, nothing, passed}
-use Rattle.model.proofs.Image.Limits.{parts}
-use Rattle.model.proofs.Image.Wholes.{read-whole}
+use Rattle.model.proofs.Basics.{true-false, and-split}
+use Rattle.model.proofs.Image.Readers.{then, gave, one-read, nothing, passed, chosen}
+use Rattle.model.proofs.Image.Limits.{place-within, parts}
+use Rattle.model.proofs.Image.Numbers.{up-to-whole, whole-up-to}
+use Rattle.model.proofs.Image.Several.{Taken, repeated-back, repeated-told, TakenNumbers, several-told, numbers-taken, numbers-first, read-two, read-three, read-four, listed}
+use Rattle.model.proofs.Image.Systems.{system-read, system-told}
 
--- ---- the parts
+-- ---- the systems
 
-pub signed-back : (z : ℤ) → signedOf (signedCode z) ≡ z
-unfolding signedOf
-signed-back (pos n) = rw (mul-mod-right 2 n, mul-div-cancel-left n {n = 2} (omega arith))
-signed-back (negsuc n) =
-    let odd : signedCode (negsuc n) % 2 ≡ 1 = mul-add-mod-self-left 2 n 1 in
-    let half : signedCode (negsuc n) / 2 ≡ n = mul-add-div {m = 2} (omega arith) n 1 ∙ add-zero n in
-    rw (odd, half)
+systems-read : (l k : List System) (rest : List ℕ) → length l ≤ maxSystems → all (systemFine l) k ≡ true → readSystems (length k) (joined (map systemBytes k) ++ rest) ≡ some (k, rest)
+systems-read l k rest h e = repeated-back readSystem systemBytes (systemFine l) (λ s rest f. system-read l s rest h f) k rest e
 
-pub kind-back : (k : Kind) (bs : List ℕ) → kindOf kinds (ofKind k .code) bs ≡ some (k, bs)
-unfolding kindOf give
-kind-back Ksd bs = refl
-kind-back Kst bs = refl
-kind-back Ksw bs = refl
-kind-back Ksb bs = refl
-kind-back Kld bs = refl
+systems-told : (n : ℕ) (bs : List ℕ) (k : List System) (rest : List ℕ) → readSystems n bs ≡ some (k, rest) → Taken systemBytes (λ s. true) n bs k rest
+systems-told = repeated-told readSystem systemBytes (λ s. true) (λ bs s rest e. (system-told bs s rest e, refl))
 
-pub name-back : (l rest : List ℕ) → readBytes (length l) (l ++ rest) ≡ some (l, rest)
-unfolding readBytes
-name-back l rest =
-    let h : length l ≤ length (l ++ rest) = omega (arith, length-append l rest) in
-    rw (le-leb (length l) (length (l ++ rest)) h, take-append-seam l rest, drop-append-seam l rest)
+-- ---- what is enabled
 
-module _ {B : Type 0} where
-  then-whole : (f : ℕ → Reader B) (n : ℕ) (rest : List ℕ) → _>>=_ readWhole f (whole n ++ rest) ≡ f n rest
-  then-whole f n rest = then readWhole f (whole n ++ rest) (read-whole n rest)
+module _ (l : List System) (h : length l ≤ maxSystems) where
+  -- a place fits a byte
+  small : (k : Kind) (p : ℕ) → isKind l k p ≡ true → p ≤ mostByte
+  small k p e = omega (arith, place-within l k p e)
 
-  then-kind : (f : Kind → Reader B) (k : Kind) (bs : List ℕ) → _>>=_ (kindOf kinds (ofKind k .code)) f bs ≡ f k bs
-  then-kind f k bs = then (kindOf kinds (ofKind k .code)) f bs (kind-back k bs)
+  part-read : (o : OperatingPart) (r v : ℕ) (rest : List ℕ) → operatingFine l o ≡ true → r ≤ mostByte → v ≤ mostByte
+      → readEnabled (enabledBytes (record { operating = o; orientational = r; levelling = v }) ++ rest) ≡ some (record { operating = o; orientational = r; levelling = v }, rest)
+  unfolding readEnabled enabledBytes enabledFrom operatingFine give
+  part-read (Single p) r v rest e hr hv =
+      rw (numbers-first 0 (p ∷ r ∷ v ∷ []) rest)
+      (then (upTo 1) _ _ (up-to-whole 1 0 (numbers (p ∷ r ∷ v ∷ []) ++ rest) (omega arith))
+      ∙ then (several 3 mostByte) _ _ (read-three mostByte rest (small Ksd p e) hr hv))
+  part-read (Pair w t) r v rest e hr hv =
+      let f = and-split (isKind l Ksw w) (isKind l Kst t) (and-split _ _ e .0) in
+      rw (numbers-first 1 (w ∷ t ∷ r ∷ v ∷ []) rest)
+      (then (upTo 1) _ _ (up-to-whole 1 1 (numbers (w ∷ t ∷ r ∷ v ∷ []) ++ rest) (omega arith))
+      ∙ then (several 4 mostByte) _ _ (read-four mostByte rest (small Ksw w (f .0)) (small Kst t (f .1)) hr hv))
 
-  then-name : (f : List ℕ → Reader B) (l rest : List ℕ) → _>>=_ (readBytes (length l)) f (l ++ rest) ≡ f l rest
-  then-name f l rest = then (readBytes (length l)) f (l ++ rest) (name-back l rest)
+  enabled-read : (e : Enabled) (rest : List ℕ) → enabledFine l e ≡ true → readEnabled (enabledBytes e ++ rest) ≡ some (e, rest)
+  unfolding enabledFine
+  enabled-read e rest g =
+      let r = isKind l Ksb (e .orientational) in
+      let f = and-split (operatingFine l (e .operating) && r) (isKind l Kld (e .levelling)) g in
+      let o = and-split (operatingFine l (e .operating)) r (f .0) in
+      part-read (e .operating) (e .orientational) (e .levelling) rest (o .0) (small Ksb (e .orientational) (o .1)) (small Kld (e .levelling) (f .1))
 
-ruleset steps = (append-assoc, then-whole, then-kind, then-name)
+part-told : (f : ℕ) (l bs mid rest : List ℕ) → f ≤ 1 → bs ≡ whole f ++ mid → TakenNumbers (3 + f) mostByte mid l rest → bs ≡ enabledBytes (enabledFrom f l) ++ rest
+unfolding enabledBytes enabledFrom table
+part-told zero l bs mid rest h e t =
+    e ∙ rw (numbers-taken t) (sym (numbers-first 0 l rest) ∙ ap (λ (k : List ℕ). numbers (0 ∷ k) ++ rest) (listed 3 l (t .long)))
+part-told (suc zero) l bs mid rest h e t =
+    e ∙ rw (numbers-taken t) (sym (numbers-first 1 l rest) ∙ ap (λ (k : List ℕ). numbers (1 ∷ k) ++ rest) (listed 4 l (t .long)))
+part-told (suc (suc f)) l bs mid rest h e t = absurd (omega arith)
 
-pub read-system : (s : System) (rest : List ℕ) → readSystem (systemBytes s ++ rest) ≡ some (s, rest)
-unfolding readSystem systemBytes numbers joined give
-read-system s rest = simp (steps, signed-back)
+enabled-told : (bs : List ℕ) (e : Enabled) (rest : List ℕ) → readEnabled bs ≡ some (e, rest) → bs ≡ enabledBytes e ++ rest
+unfolding readEnabled give
+enabled-told bs e rest r =
+    let f = gave (upTo 1) _ bs r in
+    let l = gave (several (3 + f .0) mostByte) _ (f .1) (f .3) in
+    let q = one-read (l .3) in
+    let w = whole-up-to 1 bs (f .0) (f .1) (f .2) in
+    rw (q .0, q .1) at (part-told (f .0) (l .0) bs (f .1) (l .1) (w .1) (w .0) (several-told mostByte (3 + f .0) (f .1) (l .0) (l .1) (l .2)))
 
-pub read-systems : (l : List System) (rest : List ℕ) → readSystems (length l) (joined (map systemBytes l) ++ rest) ≡ some (l, rest)
-unfolding readSystems joined give
-read-systems [] rest = refl
-read-systems (s ∷ l) rest =
-    rw append-assoc
-    (then readSystem _ _ (read-system s (joined (map systemBytes l) ++ rest)) ∙ then (readSystems (length l)) _ _ (read-systems l rest))
+-- ---- a memory
 
-read-single : (p : ℕ) (rest : List ℕ) → readPart 0 (whole p ++ rest) ≡ some (Single p, rest)
-unfolding readPart give
-read-single p rest = simp steps
+memory-read : (m : Memory) → memoryFine m ≡ true → readMemory (image m) ≡ some (m, [])
+unfolding readMemory readContents image joined give
+memory-read m h =
+    let p = parts m h in
+    let e = enabledBytes (m .enabled) ++ [] in
+    then (several 2 mostByte) _ _ (read-two mostByte (joined (map systemBytes (m .systems)) ++ e) (omega arith) (omega (arith, p .few)))
+    ∙ rw (le-leb (length (m .systems)) maxSystems (p .few))
+    (then (readSystems (length (m .systems))) _ _ (systems-read (m .systems) (m .systems) e (p .few) (p .fine))
+    ∙ then readEnabled _ _ (enabled-read (m .systems) (p .few) (m .enabled) [] (p .enabled)))
 
-read-pair : (w t : ℕ) (rest : List ℕ) → readPart 1 (whole w ++ (whole t ++ rest)) ≡ some (Pair w t, rest)
-unfolding readPart give
-read-pair w t rest = simp steps
+head-told : (m : Memory) (bs h after-h mid rest : List ℕ) → TakenNumbers 2 mostByte bs h after-h → getD h 0 0 ≡ edition → length (m .systems) ≡ getD h 1 0 → after-h ≡ joined (map systemBytes (m .systems)) ++ mid → mid ≡ enabledBytes (m .enabled) ++ rest → bs ≡ image m ++ rest
+unfolding image joined table
+head-told m bs h after-h mid rest t e l s n =
+    let eh : numbers h ≡ numbers (edition ∷ length (m .systems) ∷ []) = ap numbers (listed 2 h (t .long) ∙ rw (e, l)) in
+    numbers-taken t ∙ rw (eh, s, n) (simp (append-assoc, append-nil))
 
-module _ {B : Type 0} where
-  then-systems : (f : List System → Reader B) (l : List System) (rest : List ℕ) → _>>=_ (readSystems (length l)) f (joined (map systemBytes l) ++ rest) ≡ f l rest
-  then-systems f l rest = then (readSystems (length l)) f (joined (map systemBytes l) ++ rest) (read-systems l rest)
-
-  -- the part is told by the number before it
-  then-part : (f : OperatingPart → Reader B) (o : OperatingPart) (r v : ℕ) (rest : List ℕ)
-      → _>>=_ readWhole (λ n. _>>=_ (readPart n) f) (numbers (partNumbers o ++ (r ∷ v ∷ [])) ++ rest) ≡ f o (whole r ++ (whole v ++ rest))
-  unfolding numbers joined
-  then-part f (Single p) r v rest =
-      simp steps (then (readPart 0) f (whole p ++ (whole r ++ (whole v ++ rest))) (read-single p (whole r ++ (whole v ++ rest))))
-  then-part f (Pair w t) r v rest =
-      simp steps (then (readPart 1) f (whole w ++ (whole t ++ (whole r ++ (whole v ++ rest)))) (read-pair w t (whole r ++ (whole v ++ rest))))
-
-pub read-memory : (m : Memory) (rest : List ℕ) → length (m .systems) ≤ maxSystems → readMemory (image m ++ rest) ≡ some (m, rest)
-unfolding readMemory image enabledBytes numbers joined give
-read-memory m rest h = simp (steps, le-leb (length (m .systems)) 16 h, then-systems, then-part)
+memory-told : (bs : List ℕ) (m : Memory) (rest : List ℕ) → readMemory bs ≡ some (m, rest) → bs ≡ image m ++ rest
+unfolding readMemory readContents give
+memory-told bs m rest e =
+    let h = gave (several 2 mostByte) _ bs e in
+    let t = eqb (getD (h .0) 0 0) edition && leb (getD (h .0) 1 0) maxSystems in
+    let c = chosen t (readContents (getD (h .0) 1 0)) (h .1) (h .3) in
+    let l = gave (readSystems (getD (h .0) 1 0)) _ (h .1) (c .1) in
+    let n = gave readEnabled _ (l .1) (l .3) in
+    let q = one-read (n .3) in
+    let f = and-split (eqb (getD (h .0) 0 0) edition) (leb (getD (h .0) 1 0) maxSystems) (c .0) in
+    let s = systems-told (getD (h .0) 1 0) (h .1) (l .0) (l .1) (l .2) in
+    rw (q .0, q .1) at (head-told (record { systems = l .0; enabled = n .0 }) bs (h .0) (h .1) (l .1) (n .1) (several-told mostByte 2 bs (h .0) (h .1) (h .2)) (eqb-true (getD (h .0) 0 0) edition (f .0)) (s .long) (s .bytes) (enabled-told (l .1) (n .0) (n .1) (n .2)))
 
 -- ---- accepted
 
-accept : (bs : List ℕ) (m : Memory) (rest : List ℕ) → readMemory bs ≡ some (m, rest) → accepted bs ≡ imageOf? bs m
-unfolding accepted
-accept bs m rest e = rw (e, accepted)
-
 pub reads-back : ReadsBack
-unfolding imageOf?
-reads-back m h =
-    let e : readMemory (image m) ≡ some (m, []) = rw append-nil at (read-memory m [] (parts m h .few)) in
-    accept (image m) m [] e ∙ rw (h, same-refl (image m))
+unfolding accepted whollyRead none?
+reads-back m h = rw (memory-read m h, h)
+
+no-rest : (l : List ℕ) → none? l ≡ true → l ≡ []
+unfolding none?
+no-rest [] e = refl
+no-rest (b ∷ l) e = true-false (sym e)
 
 -- what is accepted as m: m is well formed, and these are its bytes
-its-image : (bs : List ℕ) (n m : Memory) → imageOf? bs n ≡ some m → (memoryFine m ≡ true) × (image m ≡ bs)
-unfolding imageOf?
-its-image bs n m e =
-    let p = passed (memoryFine n && same (image n) bs) n m e in
-    let f = and-split (memoryFine n) (same (image n) bs) (p .0) in
-    (rw (p .1) at (f .0), rw (p .1) at (same→≡ (image n) bs (f .1)))
-
-was-read : (bs : List ℕ) (m : Memory) (o : Option (Memory × List ℕ)) → readMemory bs ≡ o → accepted bs ≡ some m → (memoryFine m ≡ true) × (image m ≡ bs)
-unfolding accepted
-was-read bs m none r e = nothing (rw (r, accepted) at e)
-was-read bs m (some p) r e = its-image bs (p .0) m (rw (r, accepted) at e)
+was-read : (bs : List ℕ) (m : Memory) (o : Option (Memory × List ℕ)) → readMemory bs ≡ o → whollyRead o ≡ some m → (memoryFine m ≡ true) × (image m ≡ bs)
+unfolding whollyRead
+was-read bs m none r e = nothing e
+was-read bs m (some p) r e =
+    let g = passed (none? (p .1) && memoryFine (p .0)) (p .0) m e in
+    let f = and-split (none? (p .1)) (memoryFine (p .0)) (g .0) in
+    let t = memory-told bs (p .0) (p .1) r in
+    (rw (g .1) at (f .1), rw (← g .1) (sym (t ∙ rw (no-rest (p .1) (f .0)) (append-nil (image (p .0))))))
 
 pub accepted-exactly : AcceptedExactly
-accepted-exactly bs m = (was-read bs m (readMemory bs) refl, λ h. rw (h .1) at (reads-back m (h .0)))
+unfolding accepted
+accepted-exactly bs m = (λ e. was-read bs m (readMemory bs) refl e, λ h. rw (h .1) at (reads-back m (h .0)))
 
 pub one-memory : OneMemory
 one-memory m n h k e =

@@ -36,12 +36,12 @@ pub record SystemWithin (l : List System) (s : System) : Type 0 where
 name-within : (n : List ℕ) → legalName n ≡ true → length n ≤ nameLimit
 unfolding legalName
 name-within [] e = true-false (sym e)
-name-within (b ∷ bs) e = leb-true (suc (length bs)) 16 (and-split (capital b && all nameByte bs) _ e .1)
+name-within (b ∷ bs) e = leb-true (suc (length bs)) nameLimit (and-split (capital b && all nameByte bs) _ e .1)
 
 offset-within : (z : ℤ) → offset? z ≡ true → signedCode z ≤ 2 * offsetLimit
 unfolding offset?
-offset-within (pos n) e = omega (arith, leb-true n 1000000000 e)
-offset-within (negsuc n) e = omega (arith, leb-true (suc n) 1000000000 e)
+offset-within (pos n) e = omega (arith, leb-true n offsetLimit e)
+offset-within (negsuc n) e = omega (arith, leb-true (suc n) offsetLimit e)
 
 pub place-within : (l : List System) (k : Kind) (p : ℕ) → isKind l k p ≡ true → p ≤ length l
 unfolding isKind
@@ -85,7 +85,7 @@ unfolding memoryFine
 parts m e =
     let f = and-split _ _ e in
     let s = and-split _ _ (and-split _ _ (and-split _ _ (f .0) .0) .0) in
-    record { few = leb-true (length (m .systems)) 16 (s .0); fine = s .1; enabled = f .1 }
+    record { few = leb-true (length (m .systems)) maxSystems (s .0); fine = s .1; enabled = f .1 }
 
 -- ---- lengths
 

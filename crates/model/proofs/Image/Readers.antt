@@ -5,7 +5,7 @@ use mathlib.Core.List.{List}
 use mathlib.Core.Bool.{Bool, true, false, cond}
 use mathlib.Core.Option.{Option, none, some}
 use native.Mathlib.Omega.{arith}
-use Rattle.model.specs.Image.{Reader, _>>=_, fail}
+use Rattle.model.specs.Image.{Reader, _>>=_, give, fail, give?}
 
 -- ---- something and nothing
 
@@ -17,6 +17,9 @@ pub passed : {A : Type 0} (t : Bool) (x y : A) → _≡_ {A = Option A} (cond t 
 passed true x y e = (refl, cc)
 passed false x y e = nothing e
 
+pub one-some : {A : Type 0} {a b : A} → _≡_ {A = Option A} (some a) (some b) → a ≡ b
+one-some e = cc
+
 pub one-read : {A B : Type 0} {a b : A} {r s : B} → _≡_ {A = Option (A × B)} (some (a, r)) (some (b, s)) → (a ≡ b) × (r ≡ s)
 one-read {A} {B} {a} {b} {r} {s} e =
     let q : _≡_ {A = A × B} (a, r) (b, s) = cc in
@@ -27,6 +30,21 @@ pub chosen : {A : Type 0} (t : Bool) (r : Reader A) (bs : List ℕ) {p : A × Li
 unfolding fail
 chosen true r bs e = (refl, e)
 chosen false r bs e = nothing e
+
+-- what was there already
+module _ {A : Type 0} (bs : List ℕ) where
+  pub give-some : {o : Option A} {a : A} → o ≡ some a → give? o bs ≡ some (a, bs)
+  unfolding give? give
+  give-some e = rw e
+
+  pub give-none : {o : Option A} → o ≡ none → give? o bs ≡ none
+  unfolding give? fail
+  give-none e = rw e
+
+  pub given : (o : Option A) {a : A} {rest : List ℕ} → give? o bs ≡ some (a, rest) → (o ≡ some a) × (bs ≡ rest)
+  unfolding give? give fail
+  given none e = nothing e
+  given (some x) e = let q = one-read e in (ap some (q .0), q .1)
 
 -- ---- one reader after the other
 

@@ -1,15 +1,14 @@
--- Laws of whole numbers in groups of seven bits (specs/Image.antt): how a number goes on after its first group, its length, and reading it back.
-use Prim.Native.Nat.{ℕ, zero, suc, _+_, _*_, _-_, _/_, _%_, _^_, _≤_, _<_}
+-- Laws of whole numbers in groups of seven bits (specs/Image.antt): how a number goes on after its first group, and its length.
+use Prim.Native.Nat.{ℕ, zero, suc, _+_, _/_, _%_, _^_, _≤_, _<_}
 use mathlib.Core.Path.{_≡_, refl, sym, ap, _∙_}
-use mathlib.Core.List.{List, [], _∷_, _++_}
-use mathlib.Core.Option.{some}
+use mathlib.Core.List.{List, [], _∷_}
 use mathlib.Core.Logic.{⊎-elim}
 use native.Mathlib.Nat.{div-add-mod, pow-suc}
 use native.Mathlib.Omega.{arith}
 use lib.Dec.{ltb}
 use lib.ListN.{length}
 use borrow.Author.Tests.{lt-ltb, le-ltb, ltb-true, ltb-false}
-use Rattle.model.specs.Image.{sevens, whole, higher, readWhole}
+use Rattle.model.specs.Image.{sevens, whole}
 use Rattle.model.proofs.Basics.{either}
 
 -- ---- the first group
@@ -78,25 +77,3 @@ length-whole j n h =
     more n s f zero h = absurd (omega (arith, h))
     more n s f (suc j) h =
         rw (whole-more n s) (omega (arith, f j (omega (arith, pow-suc 128 (suc j), div-add-mod n 128))))
-
--- ---- reading
-
-read-last : (b : ℕ) (bs : List ℕ) → b < 128 → readWhole (b ∷ bs) ≡ some (b, bs)
-unfolding readWhole
-read-last b bs h = rw (lt-ltb b 128 h, readWhole)
-
-read-more : (b : ℕ) (bs : List ℕ) → 128 ≤ b → readWhole (b ∷ bs) ≡ higher b (readWhole bs)
-unfolding readWhole
-read-more b bs h = rw (le-ltb b 128 h, readWhole)
-
-again : (n : ℕ) (rest : List ℕ) → higher (n % 128 + 128) (some (n / 128, rest)) ≡ some (n, rest)
-unfolding higher
-again n rest = let e : n % 128 + 128 - 128 + 128 * (n / 128) ≡ n = omega (arith, div-add-mod n 128) in rw e
-
--- a number that was written is read, and the bytes after it are left
-pub read-whole : (n : ℕ) (rest : List ℕ) → readWhole (whole n ++ rest) ≡ some (n, rest)
-read-whole n rest =
-    by-groups (λ (n : ℕ). readWhole (whole n ++ rest) ≡ some (n, rest))
-    (λ n s. rw (whole-last n s) (read-last n rest s))
-    (λ n s e. rw (whole-more n s) (read-more (n % 128 + 128) (whole (n / 128) ++ rest) (omega arith) ∙ rw e (again n rest)))
-    n

@@ -13,12 +13,8 @@ use Rattle.model.specs.Lists.{all, any}
 use Rattle.model.specs.Memory.{Memory, State}
 use Rattle.model.specs.Request.{Change, Query, Reading, reading, unknown, malformed, beyond, asks, change, list, lastError, define, link, copy, remove, enable, setLevel, save, restore, reset, enabledOnes, systemsAll, links, resultants, resultantOf}
 use Rattle.model.specs.Refusals.{precedence, ofLine?, Rung, first, short, unreadable, refusal, changeLadder, queryLadder, requestLadder, readingLadder, ladder}
-use Rattle.model.proofs.Basics.{and-split, or-split, or-left, or-right, or-false, either, true-false}
+use Rattle.model.proofs.Basics.{and-split, and-false, or-split, or-left, or-right, or-false, either, true-false}
 use Rattle.model.specs.Claims.{applies, before, triedBefore, FirstToApply, inOrder, noneTwice}
-
-and-false : (a : Bool) → a && false ≡ false
-and-false true = refl
-and-false false = refl
 
 -- ---- one rung
 

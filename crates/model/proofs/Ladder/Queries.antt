@@ -28,7 +28,7 @@ module _ (st : State) (w : wellFormed st ≡ true) (line : List ℕ) where
 
     pub query-taken : (b : List ℕ) → refusal st line b ≡ 0 → stepped st line b ≡ answered st (listed (st .volatile) q) b
     unfolding carriedOut next reply
-    query-taken b z = step-fine st line b w ∙ judged-taken st (refusal st line b) line b (rw z) ∙ ap (λ r. carriedOut st r b) asked
+    query-taken b z = step-fine st line b w ∙ judged-taken st (refusal st line b) (reading line) b (rw z) ∙ ap (λ r. carriedOut st r b) asked
 
     -- a query that nothing but the buffer can refuse
     pub query-replies : unreadable line ≡ false → first (queryLadder (st .volatile) q) ≡ 0 → Replies st line (listed (st .volatile) q)

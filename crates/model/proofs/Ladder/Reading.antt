@@ -1,7 +1,7 @@
 -- What a line asks for is legal: names, offsets within the limit, 0 to 3 quarter turns, no offset where the type has turns only, level 0 or 1.
 use Prim.Native.Nat.{ℕ, zero, suc, _/_, _%_, _≤_, _<_}
 use mathlib.Core.Path.{_≡_, refl, ap, _∙_}
-use mathlib.Core.List.{List, [], _∷_}
+use mathlib.Core.List.{List, [], _∷_, _++_}
 use mathlib.Core.Bool.{Bool, true, false, cond, not, _&&_, _||_}
 use mathlib.Core.Option.{Option, none, some}
 use mathlib.Core.Logic.{_⊎_, inl, inr, ⊎-elim}
@@ -18,9 +18,9 @@ use Rattle.model.specs.Limits.{quarterTurn}
 use Rattle.model.specs.Kinds.{ofKind}
 use Rattle.model.specs.Words.{words, legalName, number, angle?, quarters}
 use Rattle.model.specs.WellFormed.{offsetsFine, turnsFine, noOffset}
-use Rattle.model.specs.Request.{Change, Query, Reading, Command, Values, reading, unknown, malformed, beyond, asks, change, list, lastError, define, link, copy, remove, enable, setLevel, save, restore, reset, enabledOnes, systemsAll, links, resultants, resultantOf, axis, firstAxis, mayCome, pairs, noValues, given, inRange, offsetsOf, turnsOf, definition, names?, word, oneName, twoNames, sameWords, fixedWords, levelWords, resultantWords, commands, readBy, readWords}
+use Rattle.model.specs.Request.{Change, Query, Reading, Command, Values, reading, unknown, malformed, beyond, asks, change, list, lastError, define, link, copy, remove, enable, setLevel, save, restore, reset, enabledOnes, systemsAll, links, resultants, resultantOf, axis, firstAxis, mayCome, pairs, noValues, given, inRange, offsetsOf, turnsOf, definition, names?, word, oneName, twoNames, sameWords, fixedWords, levelWords, resultantWords, definitions, edits, settings, queries, commands, readBy, readWords}
 use Rattle.model.specs.Claims.{LegalDefinition, AsksNothingIllegal}
-use Rattle.model.proofs.Basics.{and-split, and-join, or-left, or-right, either, all-at}
+use Rattle.model.proofs.Basics.{and-split, and-join, or-left, or-right, either, all-at, none-some}
 
 -- ---- what is legal
 
@@ -69,9 +69,6 @@ NoOffsets vs = (i : ℕ) → i < 3 → getD vs i none ≡ none
 
 abbrev Next : Kind → List ℕ → List (List ℕ) → Values → Values → Type 0
 Next k a rest vs end = (mayCome k (axis a) vs ≡ true) × (z : ℤ) × (pairs k rest (set vs (axis a) (some z)) ≡ some end)
-
-none-some : {A B : Type 0} {x : A} → _≡_ {A = Option A} none (some x) → B
-none-some e = let z : _≡_ {A = ℕ} 0 1 = cc in absurd (omega arith)
 
 -- a pair that was read
 pair-read : (k : Kind) (a n : List ℕ) (rest : List (List ℕ)) (vs end : Values) → pairs k (a ∷ n ∷ rest) vs ≡ some end → Next k a rest vs end
@@ -193,24 +190,46 @@ data Reads : List Command → Type 0 where
   done : Reads []
   more : {c : Command} {cs : List Command} → ((args : List (List ℕ)) → legal (c .read args) ≡ true) → Reads cs → Reads (c ∷ cs)
 
-commands-read : Reads commands
-unfolding commands legal changeLegal queryLegal
-commands-read =
-    more (definition-legal Ksd) (more (definition-legal Kst) (more (definition-legal Ksw) (more (definition-legal Ksb) (more (definition-legal Kld)
-    (more (two-legal (λ a b. asks (change (link a b))) (λ a b h. h))
+reads-append : {cs ds : List Command} → Reads cs → Reads ds → Reads (cs ++ ds)
+reads-append done r = r
+reads-append (more f q) r = more f (reads-append q r)
+
+definitions-read : Reads definitions
+unfolding definitions
+definitions-read =
+    more (definition-legal Ksd) (more (definition-legal Kst) (more (definition-legal Ksw) (more (definition-legal Ksb) (more (definition-legal Kld) done))))
+
+edits-read : Reads edits
+unfolding edits legal changeLegal
+edits-read =
+    more (two-legal (λ a b. asks (change (link a b))) (λ a b h. h))
     (more (two-legal (λ s d. asks (change (copy s d))) (λ s d h. h))
     (more (one-legal (λ a. asks (change (remove a))) (λ a h. h))
     (more (one-legal (λ a. asks (change (enable a))) (λ a h. h))
-    (more level-legal
+    done)))
+
+settings-read : Reads settings
+unfolding settings legal changeLegal
+settings-read =
+    more level-legal
     (more (fixed-legal (ascii "SKS" ∷ []) (asks (change save)) refl)
     (more (fixed-legal (ascii "SKS" ∷ []) (asks (change restore)) refl)
     (more (fixed-legal (ascii "SKS" ∷ []) (asks (change reset)) refl)
-    (more (fixed-legal [] (asks (list enabledOnes)) refl)
+    done)))
+
+queries-read : Reads queries
+unfolding queries legal queryLegal
+queries-read =
+    more (fixed-legal [] (asks (list enabledOnes)) refl)
     (more (fixed-legal [] (asks (list systemsAll)) refl)
     (more (fixed-legal [] (asks (list links)) refl)
     (more resultant-legal
     (more (fixed-legal [] (asks lastError) refl)
-    done)))))))))))))))))
+    done))))
+
+commands-read : Reads commands
+unfolding commands
+commands-read = reads-append definitions-read (reads-append edits-read (reads-append settings-read queries-read))
 
 by-legal : (cs : List Command) → Reads cs → (w : List ℕ) (args : List (List ℕ)) → legal (readBy cs w args) ≡ true
 unfolding readBy legal

@@ -24,17 +24,17 @@ pub step-ill : (st : State) (line b : List ℕ) → wellFormed st ≡ false → 
 unfolding stepped
 step-ill st line b w = rw (w, stepped)
 
-pub step-fine : (st : State) (line b : List ℕ) → wellFormed st ≡ true → stepped st line b ≡ judged st (refusal st line b) line b
+pub step-fine : (st : State) (line b : List ℕ) → wellFormed st ≡ true → stepped st line b ≡ judged st (refusal st line b) (reading line) b
 unfolding stepped
 step-fine st line b w = rw (w, stepped)
 
-pub judged-refused : (st : State) (n : ℕ) (line b : List ℕ) → eqb n 0 ≡ false → judged st n line b ≡ refused (withError st n) n b
+pub judged-refused : (st : State) (n : ℕ) (r : Reading) (b : List ℕ) → eqb n 0 ≡ false → judged st n r b ≡ refused (withError st n) n b
 unfolding judged
-judged-refused st n line b e = rw (e, judged)
+judged-refused st n r b e = rw (e, judged)
 
-pub judged-taken : (st : State) (n : ℕ) (line b : List ℕ) → eqb n 0 ≡ true → judged st n line b ≡ carriedOut st (reading line) b
+pub judged-taken : (st : State) (n : ℕ) (r : Reading) (b : List ℕ) → eqb n 0 ≡ true → judged st n r b ≡ carriedOut st r b
 unfolding judged
-judged-taken st n line b e = rw (e, judged)
+judged-taken st n r b e = rw (e, judged)
 
 pub carried-number : (st : State) (r : Reading) (b : List ℕ) → carriedOut st r b .number ≡ 0
 unfolding carriedOut
@@ -43,15 +43,15 @@ carried-number st malformed b = refl
 carried-number st beyond b = refl
 carried-number st (asks r) b = refl
 
-pub judged-number : (st : State) (n : ℕ) (line b : List ℕ) → judged st n line b .number ≡ n
-judged-number st n line b = go (eqb n 0) refl
+pub judged-number : (st : State) (n : ℕ) (r : Reading) (b : List ℕ) → judged st n r b .number ≡ n
+judged-number st n r b = go (eqb n 0) refl
   where
-    go : (t : Bool) → eqb n 0 ≡ t → judged st n line b .number ≡ n
-    go true e = ap (λ (o : Outcome). o .number) (judged-taken st n line b e) ∙ carried-number st (reading line) b ∙ sym (eqb-true n 0 e)
-    go false e = ap (λ (o : Outcome). o .number) (judged-refused st n line b e)
+    go : (t : Bool) → eqb n 0 ≡ t → judged st n r b .number ≡ n
+    go true e = ap (λ (o : Outcome). o .number) (judged-taken st n r b e) ∙ carried-number st r b ∙ sym (eqb-true n 0 e)
+    go false e = ap (λ (o : Outcome). o .number) (judged-refused st n r b e)
 
 pub step-number : (st : State) (line b : List ℕ) → wellFormed st ≡ true → stepped st line b .number ≡ refusal st line b
-step-number st line b w = ap (λ (o : Outcome). o .number) (step-fine st line b w) ∙ judged-number st (refusal st line b) line b
+step-number st line b w = ap (λ (o : Outcome). o .number) (step-fine st line b w) ∙ judged-number st (refusal st line b) (reading line) b
 
 -- a number of a line
 pub refusal-of-line : (st : State) (line b : List ℕ) → (refusal st line b ≡ 0 → ⊥) → ofLine? (refusal st line b) ≡ true
@@ -69,11 +69,11 @@ module _ (st : State) (line b : List ℕ) where
       P (stepped st line b)
   by-case P ill refuse take = ⊎-elim fine (λ w. rw (step-ill st line b w) (ill w)) (either (wellFormed st))
     where
-      judge : wellFormed st ≡ true → (t : Bool) → eqb (refusal st line b) 0 ≡ t → P (judged st (refusal st line b) line b)
-      judge w true e = rw (judged-taken st (refusal st line b) line b e) (take w (eqb-true (refusal st line b) 0 e))
+      judge : wellFormed st ≡ true → (t : Bool) → eqb (refusal st line b) 0 ≡ t → P (judged st (refusal st line b) (reading line) b)
+      judge w true e = rw (judged-taken st (refusal st line b) (reading line) b e) (take w (eqb-true (refusal st line b) 0 e))
       judge w false e =
           let r = refusal-of-line st line b (eqb-false (refusal st line b) 0 e) in
-          rw (judged-refused st (refusal st line b) line b e) (refuse (refusal st line b) (of-line-low _ r) r)
+          rw (judged-refused st (refusal st line b) (reading line) b e) (refuse (refusal st line b) (of-line-low _ r) r)
 
       fine : wellFormed st ≡ true → P (stepped st line b)
       fine w = rw (step-fine st line b w) (judge w (eqb (refusal st line b) 0) refl)

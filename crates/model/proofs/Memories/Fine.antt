@@ -16,7 +16,7 @@ use Rattle.model.specs.Kinds.{ofKind, sameKind}
 use Rattle.model.specs.Memory.{System, Memory, State, systemAt, blank}
 use Rattle.model.specs.Chain.{noRing}
 use Rattle.model.specs.Words.{legalName, reserved}
-use Rattle.model.specs.WellFormed.{isKind, offsetsFine, noOffset, turnsFine, systemFine, namesDiffer, operatingFine, enabledFine, memoryFine, wellFormed}
+use Rattle.model.specs.WellFormed.{isKind, offsetsFine, noOffset, turnsFine, ownFine, systemFine, namesDiffer, operatingFine, enabledFine, memoryFine, wellFormed}
 use Rattle.model.specs.Refusals.{ofLine?}
 use Rattle.model.proofs.Basics.{and-split, and-join, or-split, or-left, or-right, either, true-false, all-at, all-from, any-none, any-where, same→≡, ≡→same}
 
@@ -71,13 +71,7 @@ blank-beyond l (suc i) h = let g : length l ≤ i = omega arith in List·getD-eq
 
 -- ---- the parts of a memory
 
--- what is asked of a system alone
-abbrev pub ownFine : System → Bool
-ownFine s =
-    legalName (s .name) && not (reserved (s .name)) && offsetsFine (s .offset) && turnsFine (s .turns)
-    && (not (ofKind (s .kind) .turnsOnly) || noOffset (s .offset))
-
--- the same, part by part
+-- what is asked of a system by itself, part by part
 pub record Own (s : System) : Type 0 where
   pub name : legalName (s .name) ≡ true
   pub free : reserved (s .name) ≡ false

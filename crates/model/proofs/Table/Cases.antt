@@ -1,10 +1,11 @@
 -- The table, the tempting points and the worked example hold: each is computed, from lines of bytes to replies.
 use mathlib.Core.Path.{refl}
-use Rattle.model.specs.Table.{Table, Tempting, Printed, Unwritten, run, then}
+use Rattle.model.specs.Sessions.{sent, run, then}
+use Rattle.model.specs.Table.{Table, Tempting, Printed}
 use Rattle.model.proofs.Open.{definitions-open}
 
 pub table-holds : Table
-unfolding run then definitions-open
+unfolding sent run then definitions-open
 table-holds =
     record {
       worked = refl;
@@ -24,14 +25,10 @@ table-holds =
     }
 
 pub tempting-points : Tempting
-unfolding run then definitions-open
+unfolding sent run then definitions-open
 tempting-points =
     record { offset-turned = refl; every-successor = refl; over-ancestor = refl; predecessor-anew = refl; work-half = refl }
 
 pub printed : Printed
 unfolding definitions-open
 printed = record { worked = refl; refusals = refl; no-input = refl }
-
-pub unwritten : Unwritten
-unfolding definitions-open
-unwritten = record { one = refl; two = refl }

@@ -2,26 +2,26 @@ use mathlib.Core.Path.{_≡_, ap}
 use native.Mathlib.Omega.{arith}
 use lib.ListN.{length}
 use Rattle.model.specs.Ascii.{ascii}
-use Rattle.model.specs.Lists.{joined}
-use Rattle.model.specs.Reply.{lastDigits, decimal, value, degrees}
+use Rattle.model.specs.Lists.{joined, least}
+use Rattle.model.specs.Reply.{lastDigits, digitsOf, decimal, value, degrees}
 use borrow.Author.Needs.{needs}
 use Rattle.print.proofs.put_degrees.Statement.{statement}
 use Rattle.print.proofs.put_degrees.Tie as tie
 
 zero : (c : tie.At-match-keys1) → degrees (c .before .before .args .quarters) ≡ ascii "0.000000"
-unfolding value joined decimal lastDigits
+unfolding value joined decimal digitsOf least lastDigits
 zero c = rw (c .match .keys1)
 
 quarter : (c : tie.At-match-keys2) → degrees (c .before .before .args .quarters) ≡ ascii "90.000000"
-unfolding value joined decimal lastDigits
+unfolding value joined decimal digitsOf least lastDigits
 quarter c = rw (c .match .keys2)
 
 half : (c : tie.At-match-keys3) → degrees (c .before .before .args .quarters) ≡ ascii "180.000000"
-unfolding value joined decimal lastDigits
+unfolding value joined decimal digitsOf least lastDigits
 half c = rw (c .match .keys3)
 
 three-quarters : (c : tie.At-match-rest) → degrees (c .before .before .args .quarters) ≡ ascii "270.000000"
-unfolding value joined decimal lastDigits
+unfolding value joined decimal digitsOf least lastDigits
 three-quarters c =
     let e : c .before .before .args .quarters ≡ 3 = omega (arith, c .match .rest .1, c .match .rest .0 .1, c .match .rest .0 .0 .1) in
     rw e

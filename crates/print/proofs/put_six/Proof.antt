@@ -1,5 +1,6 @@
 use native.Mathlib.Omega.{arith}
-use Rattle.print.proofs.Laws.{length-digits, wrote-digits}
+use Rattle.model.proofs.Digits.{length-digits}
+use Rattle.print.proofs.Laws.{wrote-digits}
 use borrow.Author.Needs.{needs}
 use Rattle.print.proofs.put_six.Statement.{statement}
 use Rattle.print.proofs.put_six.Tie as tie
@@ -17,7 +18,7 @@ returns : tie.Need-returns
 returns c =
     let k = c .before .before in
     let j = k .before .before .before .before in
-    wrote-digits 3 3 (j .before .before .before .args .n) (j .put-three .ensures) (k .put-three2 .ensures)
+    wrote-digits 3 (j .before .before .before .args .n) 3 (j .put-three .ensures) (k .put-three2 .ensures)
 
 pub put-six-spec : {M : Type 1} → statement M
 put-six-spec = tie.close (tie.spec put-three-requires put-three-requires-2 same-length returns)

@@ -25,19 +25,19 @@ long s = search (length-mapped, needs)
 
 -- an index below the count is one of the array
 within : (c : tie.In-loop Inv-loop μ-loop) → c .before .loop .i < 16
-within c = let s = c .before .before .before .before .before .before .before in omega (arith, few (s .args .t1) (s .pre .shaped) (long s), c .loop-test .taken)
+within c = let s = c .before .before .before .before .before .before .before in omega (arith, few (s .args .t1) (s .pre .0 .shape) (long s), c .loop-test .taken)
 
 cast-count : tie.Need-cast-count Inv-loop μ-loop
 cast-count c = search needs
 
 put-fixed-links-requires : tie.Need-put-fixed-links-requires Inv-loop μ-loop
-put-fixed-links-requires c κs = let s = c .before .before in omega (arith, plan-room (links-plan (s .args .t1) (s .pre) (long s)))
+put-fixed-links-requires c κs = let s = c .before .before in omega (arith, plan-room (links-plan (s .args .t1) (s .pre .0) (s .args .reply .now) (s .pre .1) (long s)))
 
 loop-holds : tie.Need-loop-holds Inv-loop μ-loop
 loop-holds c =
     let w = c .before .before in
     let s = w .before .before .before in
-    plan-start (links-plan (s .args .t1) (s .pre) (long s)) (w .put-fixed-links .ensures)
+    plan-start (links-plan (s .args .t1) (s .pre .0) (s .args .reply .now) (s .pre .1) (long s)) (w .put-fixed-links .ensures)
 
 mul-s : tie.Need-mul-s Inv-loop μ-loop
 mul-s c = omega (arith, within c)
@@ -54,8 +54,8 @@ slot-within c =
     let s = c .before .before .before .before .before .before .before .before .before in
     let i = c .before .before .before .loop .i in
     let h = c .before .before .loop-test .taken in
-    let p = pred-fits (s .args .t1) (s .pre .shaped) (long s) (s .pre .fine) i h in
-    (omega (arith, p, h, c .slot .ensures), omega (arith, p, c .slot .ensures, few (s .args .t1) (s .pre .shaped) (long s)))
+    let p = pred-fits (s .args .t1) (s .pre .0 .shape) (long s) (s .pre .0 .formed) i h in
+    (omega (arith, p, h, c .slot .ensures), omega (arith, p, c .slot .ensures, few (s .args .t1) (s .pre .0 .shape) (long s)))
 
 mul-p : tie.Need-mul-p Inv-loop μ-loop
 mul-p c = omega (arith, slot-within c .1)
@@ -78,9 +78,9 @@ put-link-requires c κs =
     let s = c .before .before .before .before .before .before .before .before .before .before .before in
     let m = s .args .t1 in
     let h = c .before .before .before .before .loop-test .taken in (
-      name-fits m (s .pre .shaped) (long s) (l .loop .i) h,
-      name-fits m (s .pre .shaped) (long s) (c .before .before .slot .result) (slot-within (c .before .before) .0),
-      rw (c .before .before .slot .ensures) (rw (link-turn m (s .pre .shaped) (long s) (s .pre .fine) (l .loop .i) h) at (going-room (l .loop .inv) h)),
+      name-fits m (s .pre .0 .shape) (long s) (l .loop .i) h,
+      name-fits m (s .pre .0 .shape) (long s) (c .before .before .slot .result) (slot-within (c .before .before) .0),
+      rw (c .before .before .slot .ensures) (rw (link-turn m (s .pre .0 .shape) (long s) (s .pre .0 .formed) (l .loop .i) h) at (going-room (l .loop .inv) h)),
     )
 
 -- what is written is the line of the next place
@@ -89,7 +89,7 @@ wrote : (c : tie.After-put-link Inv-loop μ-loop) → let l = c .before .before 
 wrote c =
     let s = c .before .before .before .before .before .before .before .before .before .before .before .before in
     let h = c .before .before .before .before .before .loop-test .taken in
-    rw (link-turn (s .args .t1) (s .pre .shaped) (long s) (s .pre .fine) (c .before .before .before .before .before .before .loop .i) h) (rw (c .before .before .before .slot .ensures) at (c .put-link .ensures))
+    rw (link-turn (s .args .t1) (s .pre .0 .shape) (long s) (s .pre .0 .formed) (c .before .before .before .before .before .before .loop .i) h) (rw (c .before .before .before .slot .ensures) at (c .put-link .ensures))
 
 add-at : tie.Need-add-at Inv-loop μ-loop
 add-at c =
@@ -119,7 +119,7 @@ returns c =
     let l = e .before .before .before in
     let f = l .before .before .before in
     let s = f .before .before .before in
-    plan-end (links-plan (s .args .t1) (s .pre) (long s)) (f .put-fixed-links .ensures) (l .loop .inv) (e .before .before .loop-test .left) (e .put-byte .ensures)
+    plan-end (links-plan (s .args .t1) (s .pre .0) (s .args .reply .now) (s .pre .1) (long s)) (f .put-fixed-links .ensures) (l .loop .inv) (e .before .before .loop-test .left) (e .put-byte .ensures)
 
 pub links-spec : {M : Type 1} → statement M
 links-spec =

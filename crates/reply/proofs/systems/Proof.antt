@@ -25,19 +25,19 @@ long s = search (length-mapped, needs)
 
 -- an index below the count is one of the array
 within : (c : tie.In-loop Inv-loop μ-loop) → c .before .loop .i < 16
-within c = let s = c .before .before .before .before .before .before .before in omega (arith, few (s .args .t1) (s .pre .shaped) (long s), c .loop-test .taken)
+within c = let s = c .before .before .before .before .before .before .before in omega (arith, few (s .args .t1) (s .pre .0 .shape) (long s), c .loop-test .taken)
 
 cast-count : tie.Need-cast-count Inv-loop μ-loop
 cast-count c = search needs
 
 put-fixed-systems-requires : tie.Need-put-fixed-systems-requires Inv-loop μ-loop
-put-fixed-systems-requires c κs = let s = c .before .before in omega (arith, plan-room (systems-plan (s .args .t1) (s .pre) (long s)))
+put-fixed-systems-requires c κs = let s = c .before .before in omega (arith, plan-room (systems-plan (s .args .t1) (s .pre .0) (s .args .reply .now) (s .pre .1) (long s)))
 
 loop-holds : tie.Need-loop-holds Inv-loop μ-loop
 loop-holds c =
     let w = c .before .before in
     let s = w .before .before .before in
-    plan-start (systems-plan (s .args .t1) (s .pre) (long s)) (w .put-fixed-systems .ensures)
+    plan-start (systems-plan (s .args .t1) (s .pre .0) (s .args .reply .now) (s .pre .1) (long s)) (w .put-fixed-systems .ensures)
 
 mul-s : tie.Need-mul-s Inv-loop μ-loop
 mul-s c = omega (arith, within c)
@@ -60,8 +60,8 @@ put-system-requires c κs =
     let s = c .before .before .before .before .before .before .before .before .before in
     let m = s .args .t1 in
     let h = c .before .before .loop-test .taken in (
-      writable m (s .pre .shaped) (long s) (s .pre .fine) (l .loop .i) h,
-      rw (system-turn m (s .pre .shaped) (long s) (l .loop .i) h) at (going-room (l .loop .inv) h),
+      writable m (s .pre .0 .shape) (long s) (s .pre .0 .formed) (l .loop .i) h,
+      rw (system-turn m (s .pre .0 .shape) (long s) (l .loop .i) h) at (going-room (l .loop .inv) h),
     )
 
 -- what is written is the line of the next place
@@ -69,7 +69,7 @@ wrote : (c : tie.After-put-system Inv-loop μ-loop) → let l = c .before .befor
     Wrote (further (lineAt systemLine (c .before .before .before .before .before .before .before .before .before .before .args .t1) (suc (l .i)))) (take (length (l .reply) - l .at) (drop (l .at) (l .reply))) 0 (c .put-system .last .0) (c .put-system .result)
 wrote c =
     let s = c .before .before .before .before .before .before .before .before .before .before in
-    rw (system-turn (s .args .t1) (s .pre .shaped) (long s) (c .before .before .before .before .loop .i) (c .before .before .before .loop-test .taken)) (c .put-system .ensures)
+    rw (system-turn (s .args .t1) (s .pre .0 .shape) (long s) (c .before .before .before .before .loop .i) (c .before .before .before .loop-test .taken)) (c .put-system .ensures)
 
 add-at : tie.Need-add-at Inv-loop μ-loop
 add-at c =
@@ -99,7 +99,7 @@ returns c =
     let l = e .before .before .before in
     let f = l .before .before .before in
     let s = f .before .before .before in
-    plan-end (systems-plan (s .args .t1) (s .pre) (long s)) (f .put-fixed-systems .ensures) (l .loop .inv) (e .before .before .loop-test .left) (e .put-byte .ensures)
+    plan-end (systems-plan (s .args .t1) (s .pre .0) (s .args .reply .now) (s .pre .1) (long s)) (f .put-fixed-systems .ensures) (l .loop .inv) (e .before .before .loop-test .left) (e .put-byte .ensures)
 
 pub systems-spec : {M : Type 1} → statement M
 systems-spec =

@@ -5,20 +5,14 @@ use Rattle.model.specs.declared.Memory.{Memory as StoredMemory}
 use Rattle.model.specs.declared.State.{State as StoredState}
 use Rattle.model.specs.Effects.{withVolatile}
 use Rattle.model.specs.Stored.{stateOf, memoryShaped, shaped}
-use Rattle.model.proofs.Basics.{and-split, and-join}
+use Rattle.memory.proofs.Shape.{shape-both, shape-parts}
 use Rattle.commands.specs.Done.{done, Fits}
 use Rattle.commands.proofs.changed.applied.Statement.{statement}
 use Rattle.commands.proofs.changed.applied.Tie as tie
 
--- the shape of both memories
-parts : (s : StoredState) → shaped s ≡ true → (memoryShaped (s .volatile) ≡ true) × (memoryShaped (s .permanent) ≡ true)
-unfolding shaped
-parts s h = and-split (memoryShaped (s .volatile)) (memoryShaped (s .permanent)) h
-
 -- another volatile memory with shape
 kept : (s : StoredState) (m : StoredMemory) → shaped s ≡ true → memoryShaped m ≡ true → shaped (record { volatile = m; permanent = s .permanent; level = s .level; error = s .error }) ≡ true
-unfolding shaped
-kept s m h v = and-join v (parts s h .1)
+kept s m h v = shape-both _ v (shape-parts s h .1)
 
 enum-told : tie.Need-enum-told
 enum-told c = search needs
@@ -72,14 +66,14 @@ returns-3 c =
     let start = c .before .before .before .before .before .before in
     let s = start .args .s in
     let put = c .put-at .ensures in
-    rw (c .before .before .deed2 .given .1, done) (ap (withVolatile (stateOf s)) (put .0), λ h. kept s _ h (put .1 (parts s h .0) (start .pre .named)))
+    rw (c .before .before .deed2 .given .1, done) (ap (withVolatile (stateOf s)) (put .0), λ h. kept s _ h (put .1 (shape-parts s h .0) (start .pre .named)))
 
 returns-4 : tie.Need-returns-4
 unfolding done
 returns-4 c =
     let s = c .before .before .before .before .before .before .args .s in
     let gone = c .removed-at .ensures in
-    rw (c .before .before .deed3 .given .1, done) (ap (withVolatile (stateOf s)) (gone .0), λ h. kept s _ h (gone .1 (parts s h .0)))
+    rw (c .before .before .deed3 .given .1, done) (ap (withVolatile (stateOf s)) (gone .0), λ h. kept s _ h (gone .1 (shape-parts s h .0)))
 
 returns-5 : tie.Need-returns-5
 unfolding done shaped memoryShaped
@@ -90,12 +84,12 @@ unfolding done shaped
 returns-6 c = rw (c .before .deed5 .given .1, done) (refl, λ h. h)
 
 returns-7 : tie.Need-returns-7
-unfolding done shaped
-returns-7 c = let s = c .before .before .before .before .args .s in rw (c .enum-told2 .given .1, done) (refl, λ h. and-join (parts s h .0) (parts s h .0))
+unfolding done
+returns-7 c = let s = c .before .before .before .before .args .s in rw (c .enum-told2 .given .1, done) (refl, λ h. shape-both _ (shape-parts s h .0) (shape-parts s h .0))
 
 returns-8 : tie.Need-returns-8
 unfolding done
-returns-8 c = let s = c .before .before .before .before .args .s in rw (c .enum-told3 .given .1, done) (refl, λ h. kept s _ h (parts s h .1))
+returns-8 c = let s = c .before .before .before .before .args .s in rw (c .enum-told3 .given .1, done) (refl, λ h. kept s _ h (shape-parts s h .1))
 
 returns-9 : tie.Need-returns-9
 unfolding done

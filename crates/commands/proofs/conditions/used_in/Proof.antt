@@ -2,15 +2,16 @@ use mathlib.Core.Path.{_≡_, _∙_}
 use native.Mathlib.Omega.{arith}
 use borrow.Author.Needs.{needs}
 use lib.ListN.{length, length-take}
+use Rattle.model.specs.Limits.{maxSystems}
 use Rattle.commands.proofs.Asked.{flat-used}
 use Rattle.commands.proofs.conditions.used_in.Statement.{statement}
 use Rattle.commands.proofs.conditions.used_in.Tie as tie
 
 array-share-prefix-preds : tie.Need-array-share-prefix-preds
-array-share-prefix-preds c = let h : length (c .before .args .links .preds) ≡ 16 = search needs in omega (arith, c .before .pre)
+array-share-prefix-preds c = let h : length (c .before .args .links .preds) ≡ maxSystems = search needs in omega (arith, c .before .pre)
 
 slice-aggregate-used : tie.Need-slice-aggregate-used
-slice-aggregate-used c = let h : length (c .before .before .args .links .preds) ≡ 16 = search needs in simp length-take (omega (arith, c .before .before .pre))
+slice-aggregate-used c = let h : length (c .before .before .args .links .preds) ≡ maxSystems = search needs in simp length-take (omega (arith, c .before .before .pre))
 
 used-requires : tie.Need-used-requires
 used-requires c κs = search needs

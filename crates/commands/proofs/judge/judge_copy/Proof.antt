@@ -1,11 +1,11 @@
-use mathlib.Core.Path.{ap, _∙_}
+use mathlib.Core.Path.{sym, _∙_}
 use mathlib.Core.Bool.{_||_}
 use mathlib.Core.List.{[], _∷_}
 use borrow.Author.Needs.{needs}
-use Rattle.model.specs.Refusals.{first, changeLadder}
-use Rattle.model.specs.Stored.{systemsOf, memoryOf}
-use Rattle.commands.proofs.Asked.{locked-is, other-is, used-is, before-is, full-is}
-use Rattle.commands.specs.Conditions.{otherAt}
+use Rattle.model.specs.Use.{usedAt}
+use Rattle.model.specs.Refusals.{first, locked, otherType, atOrBefore, noRoom, changeLadder}
+use Rattle.model.specs.Stored.{systemsOf}
+use Rattle.memory.specs.Put.{holding}
 use Rattle.commands.proofs.judge.judge_copy.Statement.{statement}
 use Rattle.commands.proofs.judge.judge_copy.Tie as tie
 
@@ -27,18 +27,16 @@ first-number-requires c κs = search needs
 returns : tie.Need-returns
 unfolding changeLadder first
 returns c =
-    λ m x y s same st e.
-    let a = c .before .before .before .before .before .before .before .before .before .before .before .args in
-    let n = a .k .first in
-    let d = a .k .second in
+    λ m x y s st e.
     let t = s .first in
     let u = s .second in
+    let l = systemsOf m in
     let ties = c .before .before .before .before .before .before .ties-of .ensures in
-    let lock = c .before .before .before .locked .ensures ∙ locked-is (memoryOf m) x n t st (a .level) e in
-    let other = c .before .before .other-type .ensures ∙ ap (otherAt d) (t .kind-is) ∙ other-is (memoryOf m) y d u _ in
-    let used = ties .0 (systemsOf m) (s .links) ∙ used-is (memoryOf m) y d u (a .k .enabled) (s .enabled) in
-    let ring = ties .1 (systemsOf m) (s .links) ∙ before-is (memoryOf m) y d u x n t (a .equal) same in
-    let full = c .before .no-room .ensures ∙ full-is (memoryOf m) y d u (a .k .links .count) (s .counted) in
+    let lock = c .before .before .before .locked .ensures ∙ (λ i. locked (sym e i) ((t .meant-is i) .group)) in
+    let other = c .before .before .other-type .ensures ∙ (λ i. otherType (u .meant-is i) ((t .meant-is i) .kind)) in
+    let used = ties .0 l (s .links) ∙ (λ i. usedAt (holding l (s .enabled i)) ((u .meant-is i) .place)) in
+    let ring = ties .1 l (s .links) ∙ (λ i. atOrBefore l ((u .meant-is i) .place) ((t .meant-is i) .place)) in
+    let full = c .before .no-room .ensures l (s .counted) ∙ (λ i. noRoom l ((u .meant-is i) .place)) in
     c .first-number .ensures ∙
     (λ i. first ((7, t .absent-is i) ∷ (8, t .reserved-is i || u .reserved-is i) ∷ (9, lock i) ∷ (10, other i) ∷ (11, used i) ∷ (12, ring i) ∷ (13, full i) ∷ []))
 

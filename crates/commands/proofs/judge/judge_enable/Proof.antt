@@ -1,9 +1,7 @@
-use mathlib.Core.Path.{_∙_}
+use mathlib.Core.Path.{sym, _∙_}
 use mathlib.Core.List.{[], _∷_}
 use borrow.Author.Needs.{needs}
-use Rattle.model.specs.Refusals.{first, changeLadder}
-use Rattle.model.specs.Stored.{memoryOf}
-use Rattle.commands.proofs.Asked.{locked-is}
+use Rattle.model.specs.Refusals.{first, locked, changeLadder}
 use Rattle.commands.proofs.judge.judge_enable.Statement.{statement}
 use Rattle.commands.proofs.judge.judge_enable.Tie as tie
 
@@ -17,9 +15,8 @@ returns : tie.Need-returns
 unfolding changeLadder first
 returns c =
     λ m x y s st e.
-    let a = c .before .before .before .args in
     let t = s .first in
-    let lock = c .before .locked .ensures ∙ locked-is (memoryOf m) x (a .k .first) t st (a .level) e in
+    let lock = c .before .locked .ensures ∙ (λ i. locked (sym e i) ((t .meant-is i) .group)) in
     c .first-number .ensures ∙ (λ i. first ((7, t .absent-is i) ∷ (9, lock i) ∷ []))
 
 pub judge-enable-spec : {M : Type 1} → statement M

@@ -1,10 +1,11 @@
-use mathlib.Core.Path.{_∙_}
+use mathlib.Core.Path.{sym, _∙_}
 use mathlib.Core.Bool.{_||_}
 use mathlib.Core.List.{[], _∷_}
 use borrow.Author.Needs.{needs}
-use Rattle.model.specs.Refusals.{first, changeLadder}
-use Rattle.model.specs.Stored.{systemsOf, memoryOf}
-use Rattle.commands.proofs.Asked.{locked-is, wrong-is, used-is, before-is}
+use Rattle.model.specs.Use.{usedAt}
+use Rattle.model.specs.Refusals.{first, locked, wrongPred, atOrBefore, changeLadder}
+use Rattle.model.specs.Stored.{systemsOf}
+use Rattle.memory.specs.Put.{holding}
 use Rattle.commands.proofs.judge.judge_link.Statement.{statement}
 use Rattle.commands.proofs.judge.judge_link.Tie as tie
 
@@ -23,16 +24,15 @@ first-number-requires c κs = search needs
 returns : tie.Need-returns
 unfolding changeLadder first
 returns c =
-    λ m x y s same st e.
-    let a = c .before .before .before .before .before .before .before .before .before .before .args in
-    let n = a .k .first in
+    λ m x y s st e.
     let t = s .first in
     let u = s .second in
+    let l = systemsOf m in
     let ties = c .before .before .before .before .before .ties-of .ensures in
-    let lock = c .before .before .locked .ensures ∙ locked-is (memoryOf m) x n t st (a .level) e in
-    let wrong = c .before .wrong-pred .ensures ∙ wrong-is (memoryOf m) x n t y (a .k .second) u in
-    let used = ties .0 (systemsOf m) (s .links) ∙ used-is (memoryOf m) x n t (a .k .enabled) (s .enabled) in
-    let ring = ties .1 (systemsOf m) (s .links) ∙ before-is (memoryOf m) x n t y (a .k .second) u (a .equal) same in
+    let lock = c .before .before .locked .ensures ∙ (λ i. locked (sym e i) ((t .meant-is i) .group)) in
+    let wrong = c .before .wrong-pred .ensures ∙ (λ i. wrongPred (t .meant-is i) (u .meant-is i)) in
+    let used = ties .0 l (s .links) ∙ (λ i. usedAt (holding l (s .enabled i)) ((t .meant-is i) .place)) in
+    let ring = ties .1 l (s .links) ∙ (λ i. atOrBefore l ((t .meant-is i) .place) ((u .meant-is i) .place)) in
     c .first-number .ensures ∙
     (λ i. first ((7, t .absent-is i || u .absent-is i) ∷ (8, t .reserved-is i) ∷ (9, lock i) ∷ (10, wrong i) ∷ (11, used i) ∷ (12, ring i) ∷ []))
 

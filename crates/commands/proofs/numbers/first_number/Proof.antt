@@ -1,47 +1,56 @@
+-- Each rung goes before the ladder of those behind it.
+use Prim.Native.Nat.{ℕ}
+use mathlib.Core.Path.{_≡_, refl}
+use mathlib.Core.List.{[]}
+use borrow.Author.Needs.{needs}
 use Rattle.model.specs.Refusals.{first}
 use Rattle.commands.proofs.numbers.first_number.Statement.{statement}
 use Rattle.commands.proofs.numbers.first_number.Tie as tie
 
+rung-requires : tie.Need-rung-requires
+rung-requires c κs = search needs
+
+rung-requires-2 : tie.Need-rung-requires-2
+rung-requires-2 c κs = search needs
+
+rung-requires-3 : tie.Need-rung-requires-3
+rung-requires-3 c κs = search needs
+
+rung-requires-4 : tie.Need-rung-requires-4
+rung-requires-4 c κs = search needs
+
+rung-requires-5 : tie.Need-rung-requires-5
+rung-requires-5 c κs = search needs
+
+rung-requires-6 : tie.Need-rung-requires-6
+rung-requires-6 c κs = search needs
+
+rung-requires-7 : tie.Need-rung-requires-7
+rung-requires-7 c κs = search needs
+
+no-more : _≡_ {A = ℕ} 0 (first [])
+unfolding first
+no-more = refl
+
 returns : tie.Need-returns
-unfolding first
-returns c = rw (c .if1 .taken, first)
-
-returns-2 : tie.Need-returns-2
-unfolding first
-returns-2 c = rw (c .before .if1 .left, c .if2 .taken, first)
-
-returns-3 : tie.Need-returns-3
-unfolding first
-returns-3 c = rw (c .before .before .if1 .left, c .before .if2 .left, c .if3 .taken, first)
-
-returns-4 : tie.Need-returns-4
-unfolding first
-returns-4 c = let b = c .before in rw (b .before .before .if1 .left, b .before .if2 .left, b .if3 .left, c .if4 .taken, first)
-
-returns-5 : tie.Need-returns-5
-unfolding first
-returns-5 c = let b = c .before .before in rw (b .before .before .if1 .left, b .before .if2 .left, b .if3 .left, c .before .if4 .left, c .if5 .taken, first)
-
-returns-6 : tie.Need-returns-6
-unfolding first
-returns-6 c =
-    let b = c .before .before .before in
-    rw (b .before .before .if1 .left, b .before .if2 .left, b .if3 .left, c .before .before .if4 .left, c .before .if5 .left, c .if6 .taken, first)
-
--- no number before 13 applies
-returns-7 : tie.Need-returns-7
-unfolding first
-returns-7 c =
-    let b = c .before .before .before in
-    rw (b .before .before .before .if1 .left, b .before .before .if2 .left, b .before .if3 .left, b .if4 .left, c .before .before .if5 .left, c .before .if6 .left, c .if7 .taken, first)
-
-returns-8 : tie.Need-returns-8
-unfolding first
-returns-8 c =
-    let b = c .before .before .before in
-    rw (b .before .before .before .if1 .left, b .before .before .if2 .left, b .before .if3 .left, b .if4 .left, c .before .before .if5 .left, c .before .if6 .left, c .if7 .left, first)
+returns c =
+    let six = c .before in
+    let five = six .before in
+    let four = five .before in
+    let three = four .before in
+    let two = three .before in
+    let one = two .before in
+    c .rung7 .ensures _ (six .rung6 .ensures _ (five .rung5 .ensures _ (four .rung4 .ensures _ (three .rung3 .ensures _ (two .rung2 .ensures _ (one .rung .ensures [] no-more))))))
 
 pub first-number-spec : {M : Type 1} → statement M
 first-number-spec =
     tie.close
-    (tie.spec returns returns-2 returns-3 returns-4 returns-5 returns-6 returns-7 returns-8)
+    (tie.spec
+    rung-requires
+    rung-requires-2
+    rung-requires-3
+    rung-requires-4
+    rung-requires-5
+    rung-requires-6
+    rung-requires-7
+    returns)

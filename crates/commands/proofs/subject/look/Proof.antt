@@ -2,15 +2,17 @@ use mathlib.Core.Path.{_≡_, refl, sym, ap, _∙_}
 use native.Mathlib.Omega.{arith}
 use borrow.Author.Needs.{needs}
 use lib.ListN.{length}
+use Rattle.model.specs.Limits.{maxSystems}
 use Rattle.model.specs.Memory.{System, systemAt}
 use Rattle.model.specs.Stored.{systemsOf, memoryOf}
 use Rattle.chains.proofs.Copies.{length-mapped}
 use Rattle.memory.proofs.Laws.{length-systems}
 use Rattle.memory.proofs.Shape.{shaped-count}
+use Rattle.commands.proofs.Asked.{place-is}
 use Rattle.commands.proofs.subject.look.Statement.{statement}
 use Rattle.commands.proofs.subject.look.Tie as tie
 
-long : (c : tie.Start) → length (c .args .m .systems) ≡ 16
+long : (c : tie.Start) → length (c .args .m .systems) ≡ maxSystems
 long c = search (length-mapped, needs)
 
 places-named-requires : tie.Need-places-named-requires
@@ -32,7 +34,7 @@ returns c =
     record {
       first = one;
       second = c .before .before .about2 .ensures (memoryOf m) (places .1 .0 .place-is) (ap (λ (s : System). s .kind) (places .1 .0 .system-is));
-      source = places .0 .system-is ∙ ap (systemAt l) (places .0 .place-is ∙ sym (one .place-is));
+      source = places .0 .system-is ∙ ap (systemAt l) (places .0 .place-is ∙ sym (place-is (memoryOf m) _ _ one));
       named = places .0 .shaped (start .pre);
       links = places .1 .1 .0;
       counted = places .1 .1 .1;

@@ -7,7 +7,7 @@ use Rattle.model.specs.Stored.{systemsOf, memoryOf, stateOf}
 use Rattle.memory.specs.Put.{holding}
 use Rattle.commands.specs.declared.changed.Deed.the-variants.{Enable}
 use Rattle.commands.specs.Done.{done, Fits}
-use Rattle.commands.proofs.Asked.{found-kind}
+use Rattle.commands.proofs.Asked.{found-is, found-kind}
 use Rattle.commands.proofs.Carried.{decides-refused, decides-accepted}
 use Rattle.commands.proofs.systems.enable.Statement.{statement}
 use Rattle.commands.proofs.systems.enable.Tie as tie
@@ -40,7 +40,8 @@ returns-2 c =
     let number = j .judge-enable .ensures (s .volatile) x y seen (stateOf s) level in
     let l = systemsOf (s .volatile) in
     let kind = found-kind (memoryOf (s .volatile)) x (a .k .first) (seen .first) in
-    let enabled = c .before .enabling .ensures l kind ∙ (λ i. enabling (sym level i) (holding l (seen .enabled i)) (refOr (seen .first .found-is i))) in
+    let found = found-is (memoryOf (s .volatile)) x (a .k .first) (seen .first) in
+    let enabled = c .before .enabling .ensures l kind ∙ (λ i. enabling (sym level i) (holding l (seen .enabled i)) (refOr (found i))) in
     decides-accepted s (enable x) (j .judge-enable .result) number (c .accepted .result) (Enable (c .before .enabling .result)) (t .if1 .left) (c .accepted .ensures)
     tt
     (λ i. withVolatile (stateOf s) (holding l (enabled i)))

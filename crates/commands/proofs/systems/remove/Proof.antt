@@ -6,6 +6,7 @@ use Rattle.model.specs.Stored.{systemsOf, memoryOf, stateOf}
 use Rattle.model.proofs.Memories.Named.{user-place, place-within}
 use Rattle.commands.specs.declared.changed.Deed.the-variants.{Remove}
 use Rattle.commands.specs.Done.{done, Fits}
+use Rattle.commands.proofs.Asked.{place-is}
 use Rattle.commands.proofs.Carried.{decides-refused, decides-accepted, remove-user}
 use Rattle.commands.proofs.systems.remove.Statement.{statement}
 use Rattle.commands.proofs.systems.remove.Tie as tie
@@ -34,7 +35,7 @@ returns-2 c =
     let number = j .judge-remove .ensures (s .volatile) x y seen (stateOf s) level in
     let m = memoryOf (s .volatile) in
     let user = remove-user (stateOf s) m x (sym number ∙ t .if1 .left) in
-    let place = seen .first .place-is in
+    let place = place-is m x _ (seen .first) in
     decides-accepted s (remove x) (j .judge-remove .result) number (c .accepted .result) (Remove (j .before .args .k .first .place)) (t .if1 .left) (c .accepted .ensures)
     (rw place (user-place m x user, place-within (systemsOf (s .volatile)) x))
     (ap (λ k. withVolatile (stateOf s) (removedAt m k)) place)

@@ -1,7 +1,6 @@
 -- `carry_out`: each case of the request is the definition's.
-use mathlib.Core.Path.{refl}
 use Rattle.engine.proofs.Steps.{obeyed-unknown, obeyed-malformed, obeyed-beyond}
-use Rattle.engine.proofs.Taking.{refusal-taken, change-taken}
+use Rattle.engine.proofs.Taking.{seen-in, refusal-taken, change-taken}
 use Rattle.engine.proofs.OneLine.{named-within}
 use borrow.Author.Needs.{needs}
 use Rattle.engine.proofs.line.carry_out.Statement.{statement}
@@ -62,7 +61,7 @@ look-requires : tie.Need-look-requires
 look-requires c κs = c .before .before .before .before .before .before .pre .0 .shape
 
 define-requires : tie.Need-define-requires
-define-requires c κs = (c .look .ensures .links .few, c .before .before .before .before .before .before .before .pre .1 .0 .first)
+define-requires c κs = (c .look .ensures .links .few, c .before .before .before .before .before .before .before .pre .1 .0 .0)
 
 silent-requires-4 : tie.Need-silent-requires-4
 silent-requires-4 c κs = search needs
@@ -86,7 +85,7 @@ look-requires-3 : tie.Need-look-requires-3
 look-requires-3 c κs = c .before .before .before .before .before .pre .0 .shape
 
 copy-requires : tie.Need-copy-requires
-copy-requires c κs = (c .look3 .ensures .links .few, c .before .before .before .before .before .before .pre .1 .0 .second)
+copy-requires c κs = (c .look3 .ensures .links .few, c .before .before .before .before .before .before .pre .1 .0 .1)
 
 silent-requires-6 : tie.Need-silent-requires-6
 silent-requires-6 c κs = search needs
@@ -193,76 +192,76 @@ error-line-requires : tie.Need-error-line-requires
 error-line-requires c κs = search needs
 
 returns : tie.Need-returns
-returns c p = rw (c .before .before .enum-told .given .1) (refusal-taken _ _ _ (c .silent .ensures) _ _ _ (obeyed-unknown _ _) (c .before .refused .ensures))
+returns c s volatile level error = rw (c .before .before .enum-told .given .1) (refusal-taken s _ _ (c .silent .ensures) _ _ _ (obeyed-unknown _ _) (c .before .refused .ensures))
 
 returns-2 : tie.Need-returns-2
-returns-2 c p = rw (c .before .before .enum-told2 .given .1) (refusal-taken _ _ _ (c .silent2 .ensures) _ _ _ (obeyed-malformed _ _) (c .before .refused2 .ensures))
+returns-2 c s volatile level error = rw (c .before .before .enum-told2 .given .1) (refusal-taken s _ _ (c .silent2 .ensures) _ _ _ (obeyed-malformed _ _) (c .before .refused2 .ensures))
 
 returns-3 : tie.Need-returns-3
-returns-3 c p = rw (c .before .before .enum-told3 .given .1) (refusal-taken _ _ _ (c .silent3 .ensures) _ _ _ (obeyed-beyond _ _) (c .before .refused3 .ensures))
+returns-3 c s volatile level error = rw (c .before .before .enum-told3 .given .1) (refusal-taken s _ _ (c .silent3 .ensures) _ _ _ (obeyed-beyond _ _) (c .before .refused3 .ensures))
 
 returns-4 : tie.Need-returns-4
-returns-4 c p = rw (c .before .before .before .before .asked .given .1) (change-taken _ _ _ (c .silent4 .ensures) _ _ (c .before .define .ensures _ _ refl (c .before .before .look .ensures)))
+returns-4 c s volatile level error = rw (c .before .before .before .before .asked .given .1) (change-taken s _ _ (c .silent4 .ensures) _ _ (c .before .define .ensures s _ level (seen-in volatile (c .before .before .look .ensures))))
 
 returns-5 : tie.Need-returns-5
-returns-5 c p = rw (c .before .before .before .enum-told4 .given .1) (change-taken _ _ _ (c .silent5 .ensures) _ _ (c .before .link .ensures _ refl (c .before .before .look2 .ensures)))
+returns-5 c s volatile level error = rw (c .before .before .before .enum-told4 .given .1) (change-taken s _ _ (c .silent5 .ensures) _ _ (c .before .link .ensures s _ _ level (seen-in volatile (c .before .before .look2 .ensures))))
 
 returns-6 : tie.Need-returns-6
-returns-6 c p = rw (c .before .before .before .enum-told5 .given .1) (change-taken _ _ _ (c .silent6 .ensures) _ _ (c .before .copy .ensures _ refl (c .before .before .look3 .ensures)))
+returns-6 c s volatile level error = rw (c .before .before .before .enum-told5 .given .1) (change-taken s _ _ (c .silent6 .ensures) _ _ (c .before .copy .ensures s _ level (seen-in volatile (c .before .before .look3 .ensures))))
 
 returns-7 : tie.Need-returns-7
-returns-7 c p = rw (c .before .before .before .enum-told6 .given .1) (change-taken _ _ _ (c .silent7 .ensures) _ _ (c .before .remove .ensures _ _ _ refl (c .before .before .look4 .ensures)))
+returns-7 c s volatile level error = rw (c .before .before .before .enum-told6 .given .1) (change-taken s _ _ (c .silent7 .ensures) _ _ (c .before .remove .ensures s _ _ level (seen-in volatile (c .before .before .look4 .ensures))))
 
 returns-8 : tie.Need-returns-8
-returns-8 c p = rw (c .before .before .before .enum-told7 .given .1) (change-taken _ _ _ (c .silent8 .ensures) _ _ (c .before .enable .ensures _ _ _ refl (c .before .before .look5 .ensures)))
+returns-8 c s volatile level error = rw (c .before .before .before .enum-told7 .given .1) (change-taken s _ _ (c .silent8 .ensures) _ _ (c .before .enable .ensures s _ _ level (seen-in volatile (c .before .before .look5 .ensures))))
 
 returns-9 : tie.Need-returns-9
-returns-9 c p = rw (c .before .before .before .asked2 .given .1) (change-taken _ _ _ (c .silent9 .ensures) _ _ (c .before .set-level .ensures _))
+returns-9 c s volatile level error = rw (c .before .before .before .asked2 .given .1) (change-taken s _ _ (c .silent9 .ensures) _ _ (c .before .set-level .ensures s))
 
 returns-10 : tie.Need-returns-10
-returns-10 c p = rw (c .before .before .enum-told8 .given .1) (change-taken _ _ _ (c .silent10 .ensures) _ _ (c .before .save .ensures _))
+returns-10 c s volatile level error = rw (c .before .before .enum-told8 .given .1) (change-taken s _ _ (c .silent10 .ensures) _ _ (c .before .save .ensures s))
 
 returns-11 : tie.Need-returns-11
-returns-11 c p = rw (c .before .before .enum-told9 .given .1) (change-taken _ _ _ (c .silent11 .ensures) _ _ (c .before .restore .ensures _ refl))
+returns-11 c s volatile level error = rw (c .before .before .enum-told9 .given .1) (change-taken s _ _ (c .silent11 .ensures) _ _ (c .before .restore .ensures s level))
 
 returns-12 : tie.Need-returns-12
-returns-12 c p = rw (c .before .before .enum-told10 .given .1) (change-taken _ _ _ (c .silent12 .ensures) _ _ (c .before .reset .ensures _ refl))
+returns-12 c s volatile level error = rw (c .before .before .enum-told10 .given .1) (change-taken s _ _ (c .silent12 .ensures) _ _ (c .before .reset .ensures s level))
 
 same-length : tie.Need-same-length
 same-length c = search needs
 
 returns-13 : tie.Need-returns-13
-returns-13 c p = rw (c .before .before .before .before .enum-told11 .given .1) (c .before .before .enabled-line .ensures p _ _)
+returns-13 c s volatile level error = rw (c .before .before .before .before .enum-told11 .given .1) (c .before .before .enabled-line .ensures s volatile)
 
 same-length-2 : tie.Need-same-length-2
 same-length-2 c = search needs
 
 returns-14 : tie.Need-returns-14
-returns-14 c p = rw (c .before .before .before .before .enum-told12 .given .1) (c .before .before .systems-line .ensures p _ _)
+returns-14 c s volatile level error = rw (c .before .before .before .before .enum-told12 .given .1) (c .before .before .systems-line .ensures s volatile)
 
 same-length-3 : tie.Need-same-length-3
 same-length-3 c = search needs
 
 returns-15 : tie.Need-returns-15
-returns-15 c p = rw (c .before .before .before .before .enum-told13 .given .1) (c .before .before .links-line .ensures p _ _)
+returns-15 c s volatile level error = rw (c .before .before .before .before .enum-told13 .given .1) (c .before .before .links-line .ensures s volatile)
 
 same-length-4 : tie.Need-same-length-4
 same-length-4 c = search needs
 
 returns-16 : tie.Need-returns-16
-returns-16 c p = rw (c .before .before .before .before .enum-told14 .given .1) (c .before .before .resultants-line .ensures p _ _)
+returns-16 c s volatile level error = rw (c .before .before .before .before .enum-told14 .given .1) (c .before .before .resultants-line .ensures s volatile)
 
 same-length-5 : tie.Need-same-length-5
 same-length-5 c = search needs
 
 returns-17 : tie.Need-returns-17
-returns-17 c p = rw (c .before .before .before .before .before .enum-told15 .given .1) (c .before .before .resultant-line .ensures _ p _ _ (c .before .before .before .before .subject-of .ensures))
+returns-17 c s volatile level error = rw (c .before .before .before .before .before .enum-told15 .given .1) (c .before .before .resultant-line .ensures s _ volatile (c .before .before .before .before .subject-of .ensures))
 
 same-length-6 : tie.Need-same-length-6
 same-length-6 c = search needs
 
 returns-18 : tie.Need-returns-18
-returns-18 c p = rw (c .before .before .before .before .enum-told16 .given .1) (c .before .before .error-line .ensures _ p _)
+returns-18 c s volatile level error = rw (c .before .before .before .before .enum-told16 .given .1) (c .before .before .error-line .ensures s error)
 
 pub carry-out-spec : {M : Type 1} → statement M
 carry-out-spec =

@@ -4,8 +4,7 @@ use borrow.Author.Tests.{lt-ltb, le-ltb}
 use Rattle.model.specs.Refusals.{short}
 use Rattle.model.specs.Request.{Reading}
 use Rattle.model.specs.Stored.{stateOf}
-use Rattle.engine.specs.Fine.{stateWith}
-use Rattle.engine.specs.Obeyed.{obeyed}
+use Rattle.commands.specs.Obeyed.{obeyed}
 use Rattle.engine.proofs.Steps.{step-short, step-unreadable, step-obeyed}
 use Rattle.engine.proofs.Taking.{retold, refusal-taken}
 use borrow.Author.Needs.{needs}
@@ -27,9 +26,9 @@ silent-requires c κs = search needs
 
 returns : tie.Need-returns
 unfolding short
-returns c p fine =
+returns c s volatile level error fine =
     let start = c .before .before .before .before .before in
-    refusal-taken _ _ _ (c .silent .ensures) _ _ _ (step-short _ (start .args .line .now) _ (fine .formed) (lt-ltb _ _ (c .before .before .if1 .taken))) (c .before .refused .ensures)
+    refusal-taken s _ _ (c .silent .ensures) _ _ _ (step-short _ (start .args .line .now) _ (fine .formed) (lt-ltb _ _ (c .before .before .if1 .taken))) (c .before .refused .ensures)
 
 unreadable-requires : tie.Need-unreadable-requires
 unreadable-requires c κs = search needs
@@ -42,9 +41,9 @@ silent-requires-2 c κs = search needs
 
 returns-2 : tie.Need-returns-2
 unfolding short
-returns-2 c p fine =
+returns-2 c s volatile level error fine =
     let start = c .before .before .before .before .before .before .before in
-    refusal-taken _ _ _ (c .silent2 .ensures) _ _ _
+    refusal-taken s _ _ (c .silent2 .ensures) _ _ _
     (step-unreadable _ (start .args .line .now) _ (fine .formed) (le-ltb _ _ (c .before .before .before .before .if1 .left)) (sym (c .before .before .before .unreadable .ensures) ∙ c .before .before .if2 .taken))
     (c .before .refused2 .ensures)
 
@@ -59,13 +58,13 @@ same-length c = search needs
 
 returns-3 : tie.Need-returns-3
 unfolding short
-returns-3 c p fine =
+returns-3 c s volatile level error fine =
     let start = c .before .before .before .before .before .before .before .before .before .before in
-    let st = stateOf (stateWith (start .args .m) p (start .args .level) (start .args .error)) in
+    let st = stateOf s in
     retold
     (step-obeyed st (start .args .line .now) _ (fine .formed) (le-ltb _ _ (c .before .before .before .before .before .before .before .if1 .left)) (sym (c .before .before .before .before .before .before .unreadable .ensures) ∙ c .before .before .before .before .before .if2 .left)
     ∙ ap (λ (r : Reading). obeyed st r (start .args .reply .now)) (sym (c .before .before .before .before .read .ensures .says)))
-    (c .before .before .carry-out .ensures p)
+    (c .before .before .carry-out .ensures s volatile level error)
 
 pub decide-spec : {M : Type 1} → statement M
 decide-spec =

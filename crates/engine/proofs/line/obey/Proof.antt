@@ -1,4 +1,5 @@
 -- `obey`: what was decided, carried out.
+use mathlib.Core.Path.{refl}
 use Rattle.model.specs.Machine.{stepped}
 use Rattle.model.specs.Stored.{stateOf}
 use Rattle.engine.proofs.Views.{fine-volatile}
@@ -17,7 +18,7 @@ decide-requires c κs = fine-volatile _ (c .before .before .before .before .pre)
 applied-requires : tie.Need-applied-requires
 applied-requires c κs =
     let start = c .before .before .before .before .before .before .before .before in
-    c .before .before .before .decide .ensures (start .args .s .permanent) (start .pre) .doable
+    c .before .before .before .decide .ensures (start .args .s) refl refl refl (start .pre) .doable
 
 same-length : tie.Need-same-length
 same-length c = search needs
@@ -26,7 +27,7 @@ returns : tie.Need-returns
 returns c =
     let start = c .before .before .before .before .before .before .before .before .before in
     taken-answers {o = stepped (stateOf (start .args .s)) (start .args .line .now) (start .args .reply .now)} _
-    (c .before .before .before .before .decide .ensures (start .args .s .permanent) (start .pre))
+    (c .before .before .before .before .decide .ensures (start .args .s) refl refl refl (start .pre))
     (c .applied .ensures .0) (c .applied .ensures .1 (start .pre .shape))
 
 pub obey-spec : {M : Type 1} → statement M

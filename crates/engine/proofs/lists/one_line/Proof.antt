@@ -1,5 +1,5 @@
 use mathlib.Core.Path.{refl}
-use Rattle.engine.proofs.Taking.{ready, reply-taken}
+use Rattle.engine.proofs.Taking.{reply-taken}
 use borrow.Author.Needs.{needs}
 use Rattle.engine.proofs.lists.one_line.Statement.{statement}
 use Rattle.engine.proofs.lists.one_line.Tie as tie
@@ -9,7 +9,7 @@ use Rattle.engine.proofs.answer.replied.Reads as replied-reads
 use Rattle.reply.proofs.resultants.resultant_at.Reads as resultant-at-reads
 
 resultant-at-requires : tie.Need-resultant-at-requires
-resultant-at-requires c κs = (ready _ _ (c .before .before .pre .0) (c .before .before .pre .1 .0), c .before .before .pre .1 .1)
+resultant-at-requires c κs = search needs
 
 replied-requires : tie.Need-replied-requires
 replied-requires c κs = search needs
@@ -18,9 +18,9 @@ same-length : tie.Need-same-length
 same-length c = search needs
 
 returns : tie.Need-returns
-returns c p level error =
+returns c s =
     let w = c .replied .ensures in
-    reply-taken _ _ _ _ _ _ _ (w .3) (c .before .before .before .resultant-at .ensures) refl (w .0, w .1, w .2)
+    reply-taken s _ _ _ _ _ _ (w .3) (c .before .before .before .resultant-at .ensures) refl (w .0, w .1, w .2)
 
 pub one-line-spec : {M : Type 1} → statement M
 one-line-spec = tie.close (tie.spec resultant-at-requires replied-requires same-length returns)

@@ -1,5 +1,11 @@
 -- `resultant_line`: the line of the system that the name finds, or 7.
-use Rattle.engine.specs.Fine.{stateWith}
+use mathlib.Core.Path.{ap, _∙_}
+use Rattle.model.specs.declared.Memory.{Memory}
+use Rattle.model.specs.declared.Group.the-variants.{Operating}
+use Rattle.model.specs.Machine.{answered}
+use Rattle.model.specs.Stored.{memoryOf, stateOf}
+use Rattle.commands.specs.Subject.{Tells}
+use Rattle.engine.specs.Answers.{oneLine}
 use Rattle.engine.proofs.OneLine.{user-answers, fixed-answers, absent-answers}
 use Rattle.engine.proofs.Taking.{retold, refusal-taken}
 use borrow.Author.Needs.{needs}
@@ -36,22 +42,30 @@ same-length : tie.Need-same-length
 same-length c = search needs
 
 returns : tie.Need-returns
-returns c n p level error t =
+returns c s n e t =
     let a = c .before .before .before .before .before .before .before .args in
-    retold (user-answers (stateWith (a .m) p level error) n (a .x) t (a .reply .now) _ (c .before .before .before .before .enum-told .given .1)) (c .before .before .one-line .ensures p level error)
+    let told : Tells (memoryOf (s .volatile)) n (a .x) = rw e t in
+    retold
+    (user-answers s n (a .x) told (a .reply .now) _ (c .before .before .before .before .enum-told .given .1) ∙ ap (λ (v : Memory). answered (stateOf s) (oneLine v Operating (a .x .place)) (a .reply .now)) e)
+    (c .before .before .one-line .ensures s)
 
 same-length-2 : tie.Need-same-length-2
 same-length-2 c = search needs
 
 returns-2 : tie.Need-returns-2
-returns-2 c n p level error t =
+returns-2 c s n e t =
     let a = c .before .before .before .before .before .before .before .before .args in
-    retold (fixed-answers (stateWith (a .m) p level error) n (a .x) t (a .reply .now) _ (c .before .before .before .before .before .found .given .1)) (c .before .before .one-line2 .ensures p level error)
+    let told : Tells (memoryOf (s .volatile)) n (a .x) = rw e t in
+    let g = c .before .before .before .before .before .found .given .0 .0 in
+    retold
+    (fixed-answers s n (a .x) told (a .reply .now) _ (c .before .before .before .before .before .found .given .1) ∙ ap (λ (v : Memory). answered (stateOf s) (oneLine v g 0) (a .reply .now)) e)
+    (c .before .before .one-line2 .ensures s)
 
 returns-3 : tie.Need-returns-3
-returns-3 c n p level error t =
+returns-3 c s n e t =
     let a = c .before .before .before .before .before .args in
-    refusal-taken _ _ _ (c .silent .ensures) _ _ _ (absent-answers (stateWith (a .m) p level error) n (a .x) t _ (c .before .before .enum-told2 .given .1)) (c .before .refused .ensures)
+    let told : Tells (memoryOf (s .volatile)) n (a .x) = rw e t in
+    refusal-taken s _ _ (c .silent .ensures) _ _ _ (absent-answers s n (a .x) told _ (c .before .before .enum-told2 .given .1)) (c .before .refused .ensures)
 
 pub resultant-line-spec : {M : Type 1} → statement M
 resultant-line-spec =

@@ -1,6 +1,6 @@
 use mathlib.Core.Path.{_≡_}
 use native.Mathlib.Omega.{arith}
-use Rattle.image.specs.Strict.{enabledFrom}
+use Rattle.model.specs.Image.{enabledFrom}
 use borrow.Author.Needs.{needs}
 use Rattle.image.proofs.enabled.enabled_from.Statement.{statement}
 use Rattle.image.proofs.enabled.enabled_from.Tie as tie

@@ -1,12 +1,13 @@
 use Prim.Native.Nat.{_+_, _≤_}
-use mathlib.Core.Path.{_≡_, sym}
+use mathlib.Core.Path.{_≡_}
 use mathlib.Core.Option.{some}
 use native.Mathlib.Omega.{arith}
 use lib.ListN.{take, drop}
 use borrow.Author.Tests.{not-true, not-false}
-use Rattle.image.specs.Strict.{upTo, several, mostByte}
-use Rattle.image.proofs.Shortest.{whole-up-to}
-use Rattle.image.proofs.Several.{stored-low}
+use Rattle.model.specs.Image.{upTo, several, mostByte}
+use Rattle.model.proofs.Image.Numbers.{whole-up-to}
+use Rattle.model.proofs.Image.Several.{stored-low}
+use Rattle.model.proofs.Told.{told-value, tells-some, refuses-none}
 use Rattle.image.proofs.EnabledSteps.{no-first, no-places, places-read}
 use borrow.Author.Needs.{needs}
 use Rattle.image.proofs.enabled.read_enabled.Statement.{statement}
@@ -16,7 +17,7 @@ first-read : (c : tie.After-first) → (
     let s = c .before .before .before .before in
     upTo 1 (drop (s .args .at) (s .args .bytes .now)) ≡ some (c .first .given .0 .0, drop (c .first .given .0 .1 .0) (s .args .bytes .now))
     )
-first-read c = sym (rw (c .first .given .1) at (c .before .before .read-number .ensures))
+first-read c = told-value 14 _ _ (rw (c .first .given .1) at (c .before .before .read-number .ensures))
 
 pair-le : (c : tie.After-first) → c .first .given .0 .0 ≤ 1
 pair-le c = whole-up-to 1 _ _ _ (first-read c) .1
@@ -27,7 +28,7 @@ places-there : (c : tie.Else1) → (
     let b = f .before .before .before .before .args .bytes .now in
     several (3 + f .first .given .0 .0) mostByte (drop (f .first .given .0 .1 .0) b) ≡ some (take (3 + f .first .given .0 .0) (n .read-numbers .result .values), drop (n .read-numbers .result .next) b)
     )
-places-there c = let n = c .before .before in sym (rw (not-false (n .read-numbers .result .ok) (c .if1 .left)) at (n .read-numbers .ensures))
+places-there c = let n = c .before .before in told-value 14 _ _ (rw (not-false (n .read-numbers .result .ok) (c .if1 .left)) at (n .read-numbers .ensures))
 
 read-number-requires : tie.Need-read-number-requires
 read-number-requires c κs = search needs
@@ -38,14 +39,10 @@ enum-known-first c = search needs
 enum-told : tie.Need-enum-told
 enum-told c = search needs
 
-no-enabled-requires : tie.Need-no-enabled-requires
-no-enabled-requires c κs = search needs
-
 returns : tie.Need-returns
 returns c =
-    let t = c .before in
-    let e = rw (t .enum-told .given .1) at (t .before .before .read-number .ensures) in
-    rw (c .no-enabled .ensures) (sym (no-first _ (sym e)))
+    let e = told-value 14 _ _ (rw (c .enum-told .given .1) at (c .before .before .read-number .ensures)) in
+    refuses-none 14 (no-first _ e)
 
 add-read-numbers : tie.Need-add-read-numbers
 add-read-numbers c = omega (arith, pair-le (c .before))
@@ -53,27 +50,24 @@ add-read-numbers c = omega (arith, pair-le (c .before))
 read-numbers-requires : tie.Need-read-numbers-requires
 read-numbers-requires c κs = omega (arith, pair-le (c .before))
 
-no-enabled-requires-2 : tie.Need-no-enabled-requires-2
-no-enabled-requires-2 c κs = search needs
-
 returns-2 : tie.Need-returns-2
 returns-2 c =
-    let n = c .before .before .before in
-    let e = rw (not-true (n .read-numbers .result .ok) (c .before .if1 .taken)) at (n .read-numbers .ensures) in
-    rw (c .no-enabled2 .ensures) (sym (no-places _ _ _ (first-read (n .before .before)) (sym e)))
+    let n = c .before .before in
+    let e = told-value 14 _ _ (rw (not-true (n .read-numbers .result .ok) (c .if1 .taken)) at (n .read-numbers .ensures)) in
+    refuses-none 14 (no-places _ _ _ (first-read (n .before .before)) e)
 
 enabled-from-requires : tie.Need-enabled-from-requires
 enabled-from-requires c κs =
     let n = c .before .before .before in
     let f = n .before .before in
-    (pair-le f, stored-low (3 + f .first .given .0 .0) mostByte _ (n .read-numbers .result .values) _ (places-there (c .before)))
+    (pair-le f, stored-low mostByte (3 + f .first .given .0 .0) _ (n .read-numbers .result .values) _ (places-there (c .before)))
 
 returns-3 : tie.Need-returns-3
 returns-3 c =
     let e = c .before .before in
     let n = e .before .before in
     let f = n .before .before in
-    rw (c .enabled-from .ensures) (sym (places-read _ _ _ (first-read f) (n .read-numbers .result .values) _ (pair-le f) (places-there e)))
+    rw (c .enabled-from .ensures) (tells-some 14 (places-read _ _ _ (first-read f) (n .read-numbers .result .values) _ (pair-le f) (places-there e)))
 
 pub read-enabled-spec : {M : Type 1} → statement M
 read-enabled-spec =
@@ -82,11 +76,9 @@ read-enabled-spec =
     read-number-requires
     enum-known-first
     enum-told
-    no-enabled-requires
     returns
     add-read-numbers
     read-numbers-requires
-    no-enabled-requires-2
     returns-2
     enabled-from-requires
     returns-3)

@@ -4,7 +4,7 @@ use mathlib.Core.List.{List, [], _∷_, _++_}
 use native.Mathlib.Omega.{arith}
 use lib.ListN.{length}
 use Rattle.model.specs.Image.{whole, numbers, enabledBytes}
-use Rattle.image.proofs.Puts.{Left, left-all, left-put, left-fits, left-done, put-long}
+use Rattle.image.proofs.Left.{Left, left-all, left-wrote, left-fits, left-done}
 use Rattle.image.proofs.EnabledSteps.{single-bytes, pair-bytes}
 use borrow.Author.Needs.{needs}
 use Rattle.image.proofs.enabled.write_enabled.Statement.{statement}
@@ -65,13 +65,13 @@ cast-t18 c = search needs
 write-number-requires : tie.Need-write-number-requires
 write-number-requires c κs =
     let o = c .before .before in
-    left-fits (whole 1) (places o) _ (all-left o) (room o)
+    left-fits (whole 1) (places o) (all-left o) (room o)
 
 write-numbers-requires-2 : tie.Need-write-numbers-requires-2
 write-numbers-requires-2 c κs =
     let w = c .before .before .before in
     let o = w .before .before .before in
-    (omega arith, left-fits (four o) [] _ (left-put (all-left o) (w .write-number .ensures)) (rw (put-long (w .write-number .ensures)) (room o)))
+    (omega arith, left-fits (four o) [] (left-wrote (all-left o) (w .write-number .ensures)) (room o))
 
 same-length : tie.Need-same-length
 same-length c = search needs
@@ -87,7 +87,7 @@ returns-2 c =
     let x = c .before .before in
     let w = x .before .before .before .before in
     let o = w .before .before .before in
-    rw (is-pair o) (left-done (left-put (left-put (all-left o) (w .write-number .ensures)) (x .write-numbers2 .ensures)))
+    rw (is-pair o) (left-done (left-wrote (left-wrote (all-left o) (w .write-number .ensures)) (x .write-numbers2 .ensures)))
 
 pub write-enabled-spec : {M : Type 1} → statement M
 write-enabled-spec =

@@ -1,12 +1,11 @@
-use mathlib.Core.Path.{_≡_, sym}
-use mathlib.Core.List.{map}
+use mathlib.Core.Path.{_≡_, sym, ap, _∙_}
 use mathlib.Core.Option.{some}
-use lib.ListN.{take, drop, getD}
-use borrow.Author.Tests.{not-true, not-false, le-leb}
-use Rattle.model.specs.Stored.{systemOf, memoryShaped}
-use Rattle.model.proofs.Basics.{and-join}
-use Rattle.image.specs.Strict.{several, mostByte, strictSystems}
-use Rattle.image.proofs.MemorySteps.{no-head, other-edition, too-many, no-systems, no-enabled, memory-there}
+use lib.ListN.{take, drop}
+use borrow.Author.Tests.{not-true, not-false}
+use Rattle.model.specs.Told.{orNumber}
+use Rattle.model.specs.Image.{several, mostByte}
+use Rattle.model.proofs.Told.{told-value, refuses-none}
+use Rattle.image.proofs.MemorySteps.{no-head, other-edition, too-many, headed}
 use borrow.Author.Needs.{needs}
 use Rattle.image.proofs.memories.read_memory.Statement.{statement}
 use Rattle.image.proofs.memories.read_memory.Tie as tie
@@ -16,16 +15,7 @@ head-read : (c : tie.Else1) → (
     let b = r .before .before .args .bytes .now in
     several 2 mostByte b ≡ some (take 2 (r .read-numbers .result .values), drop (r .read-numbers .result .next) b)
     )
-head-read c = let r = c .before .before in sym (rw (not-false (r .read-numbers .result .ok) (c .if1 .left)) at (r .read-numbers .ensures))
-
-systems-read : (c : tie.Else4) → (
-    let l = c .before .before in
-    let r = l .before .before .before .before .before .before in
-    let v = r .read-numbers .result in
-    let b = r .before .before .args .bytes .now in
-    strictSystems (getD (v .values) 1 0) (drop (v .next) b) ≡ some (map systemOf (take (getD (v .values) 1 0) (l .read-systems .result .systems)), drop (l .read-systems .result .next) b)
-    )
-systems-read c = let l = c .before .before in sym (rw (not-false (l .read-systems .result .ok) (c .if4 .left)) at (l .read-systems .ensures .0))
+head-read c = let r = c .before .before in told-value 14 _ _ (rw (not-false (r .read-numbers .result .ok) (c .if1 .left)) at (r .read-numbers .ensures))
 
 read-numbers-requires : tie.Need-read-numbers-requires
 read-numbers-requires c κs = search needs
@@ -36,8 +26,8 @@ no-memory-requires c κs = search needs
 returns : tie.Need-returns
 returns c =
     let r = c .before .before .before in
-    let e = rw (not-true (r .read-numbers .result .ok) (c .before .if1 .taken)) at (r .read-numbers .ensures) in
-    (rw (c .no-memory .ensures .0) (sym (no-head _ (sym e))), c .no-memory .ensures .1)
+    let e = told-value 14 _ _ (rw (not-true (r .read-numbers .result .ok) (c .before .if1 .taken)) at (r .read-numbers .ensures)) in
+    (rw (c .no-memory .ensures .0) (refuses-none 14 (no-head _ e)), c .no-memory .ensures .1)
 
 array-read-if2 : tie.Need-array-read-if2
 array-read-if2 c = search needs
@@ -49,7 +39,7 @@ returns-2 : tie.Need-returns-2
 returns-2 c =
     let e1 = c .before .before .before in
     let v = e1 .before .before .read-numbers .result .values in
-    (rw (c .no-memory2 .ensures .0) (sym (other-edition _ v _ (head-read e1) (c .before .if2 .taken))), c .no-memory2 .ensures .1)
+    (rw (c .no-memory2 .ensures .0) (refuses-none 14 (other-edition _ v _ (head-read e1) (c .before .if2 .taken))), c .no-memory2 .ensures .1)
 
 array-read-count : tie.Need-array-read-count
 array-read-count c = search needs
@@ -62,61 +52,18 @@ returns-3 c =
     let e2 = c .before .before in
     let e1 = e2 .before .before in
     let v = e1 .before .before .read-numbers .result .values in
-    (rw (c .no-memory3 .ensures .0) (sym (too-many _ v _ (head-read e1) (e2 .if2 .left) (c .before .if3 .taken))), c .no-memory3 .ensures .1)
+    (rw (c .no-memory3 .ensures .0) (refuses-none 14 (too-many _ v _ (head-read e1) (e2 .if2 .left) (c .before .if3 .taken))), c .no-memory3 .ensures .1)
 
-read-systems-requires : tie.Need-read-systems-requires
-read-systems-requires c κs = search needs
-
-no-memory-requires-4 : tie.Need-no-memory-requires-4
-no-memory-requires-4 c κs = search needs
+read-contents-requires : tie.Need-read-contents-requires
+read-contents-requires c κs = search needs
 
 returns-4 : tie.Need-returns-4
 returns-4 c =
-    let l = c .before .before .before in
-    let e3 = l .before in
+    let e3 = c .before in
     let e2 = e3 .before in
     let e1 = e2 .before .before in
     let v = e1 .before .before .read-numbers .result .values in
-    let e = rw (not-true (l .read-systems .result .ok) (c .before .if4 .taken)) at (l .read-systems .ensures .0) in
-    (rw (c .no-memory4 .ensures .0) (sym (no-systems _ v _ (head-read e1) (e2 .if2 .left) (e3 .if3 .left) (sym e))), c .no-memory4 .ensures .1)
-
-read-enabled-requires : tie.Need-read-enabled-requires
-read-enabled-requires c κs = search needs
-
-no-memory-requires-5 : tie.Need-no-memory-requires-5
-no-memory-requires-5 c κs = search needs
-
-returns-5 : tie.Need-returns-5
-returns-5 c =
-    let n = c .before .before .before in
-    let e4 = n .before in
-    let e3 = e4 .before .before .before in
-    let e2 = e3 .before in
-    let e1 = e2 .before .before in
-    let v = e1 .before .before .read-numbers .result .values in
-    let e = rw (not-true (n .read-enabled .result .ok) (c .before .if5 .taken)) at (n .read-enabled .ensures) in (
-      rw (c .no-memory5 .ensures .0) (sym (no-enabled _ v _ (head-read e1) (e2 .if2 .left) (e3 .if3 .left) _ _ (systems-read e4) (sym e))),
-      c .no-memory5 .ensures .1,
-    )
-
-cast-t17 : tie.Need-cast-t17
-cast-t17 c = search needs
-
-returns-6 : tie.Need-returns-6
-unfolding memoryShaped
-returns-6 c =
-    let e5 = c .before .before in
-    let n = e5 .before .before in
-    let e4 = n .before in
-    let l = e4 .before .before in
-    let e3 = l .before in
-    let e2 = e3 .before in
-    let e1 = e2 .before .before in
-    let v = e1 .before .before .read-numbers .result .values in
-    let e = rw (not-false (n .read-enabled .result .ok) (e5 .if5 .left)) at (n .read-enabled .ensures) in (
-      sym (memory-there _ v _ (head-read e1) (e2 .if2 .left) (e3 .if3 .left) _ _ (systems-read e4) (n .read-enabled .result .enabled) _ (sym e)),
-      and-join (le-leb (getD v 1 0) 16 (e3 .if3 .left)) (l .read-systems .ensures .1 (not-false (l .read-systems .result .ok) (e4 .if4 .left))),
-    )
+    (c .read-contents .ensures .0 ∙ ap (orNumber 14) (sym (headed _ v _ (head-read e1) (e2 .if2 .left) (e3 .if3 .left))), c .read-contents .ensures .1)
 
 pub read-memory-spec : {M : Type 1} → statement M
 read-memory-spec =
@@ -131,11 +78,5 @@ read-memory-spec =
     array-read-count
     no-memory-requires-3
     returns-3
-    read-systems-requires
-    no-memory-requires-4
-    returns-4
-    read-enabled-requires
-    no-memory-requires-5
-    returns-5
-    cast-t17
-    returns-6)
+    read-contents-requires
+    returns-4)

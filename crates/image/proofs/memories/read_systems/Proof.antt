@@ -8,19 +8,21 @@ use borrow.Author.Needs.{needs}
 use borrow.Author.Tests.{not-true, not-false}
 use lib.ListN.{length, take, drop, set, length-set}
 use lib.Seq.{take-suc-set}
+use Rattle.model.specs.Limits.{maxSystems}
 use Rattle.model.specs.declared.System.{System as StoredSystem}
 use Rattle.model.specs.Lists.{all}
 use Rattle.memory.proofs.Shape.{all-more}
 use Rattle.model.specs.Stored.{systemOf, nameShaped}
 use Rattle.model.proofs.Basics.{true-false}
-use Rattle.image.specs.Strict.{strictSystem, strictSystems}
+use Rattle.model.specs.Image.{readSystem, readSystems}
+use Rattle.model.proofs.Told.{told-value, tells-some, refuses-none}
 use Rattle.image.proofs.Turns.{prefixed, turn-first, turn-read, turn-refused, turn-last}
 use Rattle.image.proofs.memories.read_systems.Statement.{statement}
 use Rattle.image.proofs.memories.read_systems.Tie as tie
 
 abbrev Inv-loop : tie.InvT-loop
 Inv-loop bytes at count systems₀ next₀ i₀ systems next i =
-    (i ≤ count) × (length systems ≡ 16) × (strictSystems count (drop at bytes) ≡ prefixed (map systemOf (take i systems)) (strictSystems (count - i) (drop next bytes))) × (all nameShaped (take i systems) ≡ true)
+    (i ≤ count) × (length systems ≡ maxSystems) × (readSystems count (drop at bytes) ≡ prefixed (map systemOf (take i systems)) (readSystems (count - i) (drop next bytes))) × (all nameShaped (take i systems) ≡ true)
 
 abbrev μ-loop : tie.MeasureT-loop
 μ-loop bytes at count systems₀ next₀ i₀ systems next i = count - i
@@ -33,7 +35,7 @@ blank-system-requires c κs = search needs
 
 loop-holds : tie.Need-loop-holds Inv-loop μ-loop
 unfolding all
-loop-holds c = (omega arith, refl, turn-first strictSystem _ _, refl)
+loop-holds c = (omega arith, refl, turn-first readSystem _ _, refl)
 
 read-system-requires : tie.Need-read-system-requires Inv-loop μ-loop
 read-system-requires c κs = search needs
@@ -42,8 +44,8 @@ returns : tie.Need-returns Inv-loop μ-loop
 returns c =
     let r = c .before .before in
     let l = r .before .before in
-    let e = rw (not-true (r .read-system .result .ok) (c .if1 .taken)) at (r .read-system .ensures .0) in (
-      sym (l .loop .inv .2 ∙ turn-refused strictSystem _ (l .loop .i) _ (map systemOf (take (l .loop .i) (l .loop .systems))) (r .before .loop-test .taken) (sym e)),
+    let e = told-value 14 _ _ (rw (not-true (r .read-system .result .ok) (c .if1 .taken)) at (r .read-system .ensures .0)) in (
+      refuses-none 14 (l .loop .inv .2 ∙ turn-refused readSystem _ (l .loop .i) _ (map systemOf (take (l .loop .i) (l .loop .systems))) (r .before .loop-test .taken) e),
       λ f. true-false (sym f),
     )
 
@@ -69,10 +71,10 @@ loop-again c =
     let x = r .read-system .result .system in
     let h = r .before .loop-test .taken in
     let g : i < length v = omega (arith, h, l .loop .inv .1, l .before .before .before .pre) in
-    let e = rw (not-false (r .read-system .result .ok) (t .if1 .left)) at (r .read-system .ensures .0) in (
+    let e = told-value 14 _ _ (rw (not-false (r .read-system .result .ok) (t .if1 .left)) at (r .read-system .ensures .0)) in (
       omega (arith, h),
       length-set v i x ∙ l .loop .inv .1,
-      rw (stored-more v i x g) (l .loop .inv .2 ∙ turn-read strictSystem _ i _ (map systemOf (take i v)) (systemOf x) _ h (sym e)),
+      rw (stored-more v i x g) (l .loop .inv .2 ∙ turn-read readSystem _ i _ (map systemOf (take i v)) (systemOf x) _ h e),
       all-more nameShaped x (r .read-system .ensures .1) v i g (l .loop .inv .3),
     )
 
@@ -81,7 +83,7 @@ returns-2 c =
     let l = c .before in
     let i = l .loop .i in
     let e : i ≡ l .before .before .before .args .count = omega (arith, l .loop .inv .0, c .loop-test .left) in (
-      sym (l .loop .inv .2 ∙ turn-last strictSystem _ i _ (map systemOf (take i (l .loop .systems))) (l .loop .inv .0) (c .loop-test .left) ∙ rw e),
+      tells-some 14 (l .loop .inv .2 ∙ turn-last readSystem _ i _ (map systemOf (take i (l .loop .systems))) (l .loop .inv .0) (c .loop-test .left) ∙ rw e),
       λ f. rw e at (l .loop .inv .3),
     )
 

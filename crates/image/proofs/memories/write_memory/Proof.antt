@@ -1,70 +1,80 @@
 use Prim.Native.Nat.{ℕ, _+_, _≤_}
-use mathlib.Core.Path.{_≡_, refl, _∙_}
+use mathlib.Core.Path.{_≡_}
 use mathlib.Core.List.{List, [], _∷_, _++_, map}
 use native.Mathlib.Omega.{arith}
 use lib.ListN.{length}
+use Rattle.model.specs.Limits.{maxSystems}
 use Rattle.model.specs.Lists.{joined}
 use Rattle.model.specs.Image.{edition, numbers, systemBytes, enabledBytes, image}
 use Rattle.model.specs.Stored.{systemsOf, memoryOf}
 use Rattle.model.proofs.Image.Limits.{fits}
 use Rattle.chains.proofs.Copies.{length-mapped}
-use Rattle.image.proofs.Puts.{Left, left-put, left-fits, left-done, put-long}
-use Rattle.image.proofs.MemoryPuts.{last-part, after-head, image-left}
+use Rattle.image.proofs.Left.{Left, left-all, left-wrote, left-fits, left-done}
+use Rattle.image.proofs.MemoryLeft.{image-parts}
 use borrow.Author.Needs.{needs}
 use Rattle.image.proofs.memories.write_memory.Statement.{statement}
 use Rattle.image.proofs.memories.write_memory.Tie as tie
 
--- what is left to write, before each of the three writes
-module _ (c : tie.Start) where
-  long : length (c .args .m .systems) ≡ 16
-  long = search (length-mapped, needs)
+-- the stages, each by the one after it: the head and the systems are written
+abbrev begun : tie.After-write-numbers → tie.Start
+begun c = c .before .before .before .before
 
+abbrev headed : tie.After-write-systems → tie.After-write-numbers
+headed c = c .before .before .before .before
+
+-- the image and its parts
+module _ (c : tie.Start) where
+  abbrev head : List ℕ
+  head = numbers (edition ∷ c .args .m .count ∷ [])
+
+  abbrev systems : List ℕ
+  systems = joined (map systemBytes (systemsOf (c .args .m)))
+
+  abbrev enabled : List ℕ
+  enabled = enabledBytes (c .args .m .enabled)
+
+  -- the rest is left to write at i of a
   abbrev LeftOf : List ℕ → ℕ → List ℕ → Type 0
   LeftOf rest i a = Left (image (memoryOf (c .args .m))) 0 (c .args .out .now) rest i a
 
-  -- a part fits wherever the buffer is as long as it was
-  room : (x rest : List ℕ) (i : ℕ) (a : List ℕ) → length a ≡ length (c .args .out .now) → LeftOf (x ++ rest) i a → i + length x ≤ length a
-  room x rest i a e l =
-      let f = fits (memoryOf (c .args .m)) (c .pre .1) in
-      left-fits x rest (length a) l (omega (arith, c .pre .2, f .0))
+  long : length (c .args .m .systems) ≡ maxSystems
+  long = search (length-mapped, needs)
 
-  all-left : LeftOf (numbers (edition ∷ c .args .m .count ∷ []) ++ after-head (c .args .m) long (c .pre .0)) 0 (c .args .out .now)
-  all-left = image-left (c .args .m) long (c .pre .0) (c .args .out .now)
+  all-left : LeftOf (head ++ (systems ++ (enabled ++ []))) 0 (c .args .out .now)
+  all-left = rw (image-parts (c .args .m) long (c .pre .0)) (left-all _ 0 (c .args .out .now))
 
-left-listed : (c : tie.After-write-numbers) → (let s = c .before .before .before .before in LeftOf s (after-head (s .args .m) (long s) (s .pre .0)) (c .write-numbers .result) (c .write-numbers .last .0))
-left-listed c = left-put (all-left (c .before .before .before .before)) (c .write-numbers .ensures)
+  room : (x rest : List ℕ) (i : ℕ) (a : List ℕ) → LeftOf (x ++ rest) i a → i + length x ≤ length a
+  room x rest i a l = left-fits x rest l (omega (arith, c .pre .2, fits (memoryOf (c .args .m)) (c .pre .1) .0))
 
-left-enabled : (c : tie.After-write-systems) → (let s = c .before .before .before .before .before .before .before .before in LeftOf s (last-part (s .args .m) (long s) (s .pre .0)) (c .write-systems .result) (c .write-systems .last .0))
-left-enabled c = left-put (left-listed (c .before .before .before .before)) (c .write-systems .ensures)
+left-listed : (c : tie.After-write-numbers) → (let s = begun c in LeftOf s (systems s ++ (enabled s ++ [])) (c .write-numbers .result) (c .write-numbers .last .0))
+left-listed c = left-wrote (all-left (begun c)) (c .write-numbers .ensures)
+
+left-enabled : (c : tie.After-write-systems) → (let s = begun (headed c) in LeftOf s (enabled s ++ []) (c .write-systems .result) (c .write-systems .last .0))
+left-enabled c = left-wrote (left-listed (headed c)) (c .write-systems .ensures)
 
 cast-t7 : tie.Need-cast-t7
 cast-t7 c = search needs
 
 write-numbers-requires : tie.Need-write-numbers-requires
-write-numbers-requires c κs =
-    let s = c .before .before .before in
-    (omega arith, room s (numbers (edition ∷ s .args .m .count ∷ [])) (after-head (s .args .m) (long s) (s .pre .0)) _ _ refl (all-left s))
+write-numbers-requires c κs = let s = c .before .before .before in (omega arith, room s (head s) (systems s ++ (enabled s ++ [])) _ _ (all-left s))
 
 write-systems-requires : tie.Need-write-systems-requires
 write-systems-requires c κs =
     let w = c .before .before .before in
-    let s = w .before .before .before .before in (
-      (s .pre .0, s .pre .1),
-      room s (joined (map systemBytes (systemsOf (s .args .m)))) (last-part (s .args .m) (long s) (s .pre .0)) _ _ (put-long (w .write-numbers .ensures)) (left-listed w),
-    )
+    let s = begun w in
+    ((s .pre .0, s .pre .1), room s (systems s) (enabled s ++ []) _ _ (left-listed w))
 
 write-enabled-requires : tie.Need-write-enabled-requires
 write-enabled-requires c κs =
-    let v = c .before .before .before .before in
-    let w = v .before .before .before .before in
-    let s = w .before .before .before .before in
-    room s (enabledBytes (s .args .m .enabled)) [] _ _ (put-long (v .write-systems .ensures) ∙ put-long (w .write-numbers .ensures)) (left-enabled v)
+    let w = c .before .before .before .before in
+    let s = begun (headed w) in
+    room s (enabled s) [] _ _ (left-enabled w)
 
 same-length : tie.Need-same-length
 same-length c = search needs
 
 returns : tie.Need-returns
-returns c = let x = c .before .before in left-done (left-put (left-enabled (x .before .before .before .before .before)) (x .write-enabled .ensures))
+returns c = let x = c .before .before in left-done (left-wrote (left-enabled (x .before .before .before .before .before)) (x .write-enabled .ensures))
 
 pub write-memory-spec : {M : Type 1} → statement M
 write-memory-spec =

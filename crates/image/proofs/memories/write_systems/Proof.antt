@@ -1,27 +1,28 @@
 use Prim.Native.Nat.{_+_, _-_, _≤_}
-use mathlib.Core.Path.{_≡_, refl, _∙_}
+use mathlib.Core.Path.{_≡_}
 use mathlib.Core.List.{_++_, map}
 use native.Mathlib.Omega.{arith}
 use borrow.Author.Needs.{needs}
 use lib.ListN.{length, drop, getD}
+use Rattle.model.specs.Limits.{maxSystems}
 use Rattle.model.specs.Lists.{joined}
 use Rattle.model.specs.Image.{systemBytes}
 use Rattle.model.specs.Stored.{systemOf, systemsOf}
 use Rattle.chains.proofs.Copies.{length-mapped, unset}
 use Rattle.memory.proofs.Shape.{shaped-count, shaped-at}
-use Rattle.image.proofs.MemoryPuts.{systems-turn, systems-end, offsets-small}
-use Rattle.image.proofs.Puts.{Left, left-all, left-put, left-fits, left-done, put-long}
+use Rattle.image.proofs.MemoryLeft.{systems-turn, systems-end, offsets-small}
+use Rattle.image.proofs.Left.{Left, left-all, left-wrote, left-fits, left-done}
 use Rattle.image.proofs.memories.write_systems.Statement.{statement}
 use Rattle.image.proofs.memories.write_systems.Tie as tie
 
 abbrev Inv-loop : tie.InvT-loop
 Inv-loop out₀ at m count next₀ i₀ out next i =
-    (i ≤ count) × (length out ≡ length out₀) × Left (joined (map systemBytes (systemsOf m))) at out₀ (joined (map systemBytes (drop i (systemsOf m)))) next out
+    (i ≤ count) × Left (joined (map systemBytes (systemsOf m))) at out₀ (joined (map systemBytes (drop i (systemsOf m)))) next out
 
 abbrev μ-loop : tie.MeasureT-loop
 μ-loop out₀ at m count next₀ i₀ out next i = count - i
 
-long : (c : tie.Start Inv-loop μ-loop) → length (c .args .t3 .systems) ≡ 16
+long : (c : tie.Start Inv-loop μ-loop) → length (c .args .t3 .systems) ≡ maxSystems
 long c = search (length-mapped, needs)
 
 cast-count : tie.Need-cast-count Inv-loop μ-loop
@@ -38,10 +39,10 @@ next-left : (c : tie.In-loop Inv-loop μ-loop) → (
 next-left c =
     let l = c .before in
     let s = l .before .before in
-    rw (systems-turn (s .args .t3) (long s) (s .pre .0 .0) (l .loop .i) unset (c .loop-test .taken)) at (l .loop .inv .2)
+    rw (systems-turn (s .args .t3) (long s) (s .pre .0 .0) (l .loop .i) unset (c .loop-test .taken)) at (l .loop .inv .1)
 
 loop-holds : tie.Need-loop-holds Inv-loop μ-loop
-loop-holds c = (omega arith, refl, left-all _ _ _)
+loop-holds c = (omega arith, left-all _ _ _)
 
 mul-s : tie.Need-mul-s Inv-loop μ-loop
 mul-s c = search needs
@@ -61,7 +62,7 @@ write-system-requires c κs =
     let h = t .loop-test .taken in (
       (
         shaped-at m (s .pre .0 .0) _ i h (omega (arith, long s, shaped-count m (s .pre .0 .0))),
-        left-fits (systemBytes (systemOf (getD (m .systems) i unset))) (joined (map systemBytes (drop (i + 1) (systemsOf m)))) _ (next-left t) (omega (arith, l .loop .inv .1, s .pre .1)),
+        left-fits (systemBytes (systemOf (getD (m .systems) i unset))) (joined (map systemBytes (drop (i + 1) (systemsOf m)))) (next-left t) (s .pre .1),
       ),
       offsets-small m (long s) (s .pre .0 .0) (s .pre .0 .1) i _ h,
     )
@@ -76,17 +77,16 @@ loop-again : tie.Need-loop-again Inv-loop μ-loop
 loop-again c =
     let w = c .before .before in
     let t = w .before .before .before in
-    let l = t .before in
-    (omega (arith, t .loop-test .taken), put-long (w .write-system .ensures) ∙ l .loop .inv .1, left-put (next-left t) (w .write-system .ensures))
+    (omega (arith, t .loop-test .taken), left-wrote (next-left t) (w .write-system .ensures))
 
 same-length : tie.Need-same-length Inv-loop μ-loop
-same-length c = c .before .loop .inv .1
+same-length c = c .before .loop .inv .1 .long
 
 returns : tie.Need-returns Inv-loop μ-loop
 returns c =
     let l = c .before in
     let s = l .before .before in
-    left-done (rw (systems-end (s .args .t3) (long s) (s .pre .0 .0) (l .loop .i) (c .loop-test .left)) at (l .loop .inv .2))
+    left-done (rw (systems-end (s .args .t3) (long s) (s .pre .0 .0) (l .loop .i) (c .loop-test .left)) at (l .loop .inv .1))
 
 pub write-systems-spec : {M : Type 1} → statement M
 write-systems-spec =

@@ -4,13 +4,14 @@ use native.Mathlib.Omega.{arith}
 use borrow.Author.Needs.{needs}
 use lib.ListN.{length, take, drop, getD, length-set, length-drop}
 use lib.Seq.{getD-drop}
+use Rattle.model.specs.Limits.{nameLimit}
 use Rattle.memory.proofs.Laws.{filled-turn}
 use Rattle.image.proofs.names.copied.Statement.{statement}
 use Rattle.image.proofs.names.copied.Tie as tie
 
 abbrev Inv-loop : tie.InvT-loop
 Inv-loop bytes at n name₀ i₀ name i =
-    (i ≤ n) × (length name ≡ 16) × (take i name ≡ take i (drop at bytes))
+    (i ≤ n) × (length name ≡ nameLimit) × (take i name ≡ take i (drop at bytes))
 
 abbrev μ-loop : tie.MeasureT-loop
 μ-loop bytes at n name₀ i₀ name i = n - i

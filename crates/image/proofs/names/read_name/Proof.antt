@@ -1,31 +1,32 @@
 use native.Mathlib.Omega.{arith}
 use Rattle.image.proofs.NameLaws.{name-long, name-beyond, name-there}
+use Rattle.model.proofs.Told.{tells-some, refuses-none}
 use borrow.Author.Needs.{needs}
 use Rattle.image.proofs.names.read_name.Statement.{statement}
 use Rattle.image.proofs.names.read_name.Tie as tie
 
-no-name-requires : tie.Need-no-name-requires
-no-name-requires c κs = search needs
+unread-requires : tie.Need-unread-requires
+unread-requires c κs = search needs
 
 returns : tie.Need-returns
 returns c =
     let s = c .before .before .before in
-    (rw (c .no-name .ensures .0) (name-long (s .args .bytes .now) (s .args .at) (s .args .len) (c .before .if1 .taken)), c .no-name .ensures .1)
+    (rw (c .unread .ensures .0) (refuses-none 14 (name-long (s .args .bytes .now) (s .args .at) (s .args .len) (c .before .if1 .taken))), c .unread .ensures .1)
 
 left-from-requires : tie.Need-left-from-requires
 left-from-requires c κs = search needs
 
-no-name-requires-2 : tie.Need-no-name-requires-2
-no-name-requires-2 c κs = search needs
+unread-requires-2 : tie.Need-unread-requires-2
+unread-requires-2 c κs = search needs
 
 returns-2 : tie.Need-returns-2
 returns-2 c =
     let t = c .before in
     let l = t .before in
     let s = l .before .before .before in (
-      rw (c .no-name2 .ensures .0)
-          (name-beyond (s .args .bytes .now) (s .args .at) (s .args .len) (l .before .if1 .left) (omega (arith, t .if2 .taken, l .left-from .ensures))),
-      c .no-name2 .ensures .1,
+      rw (c .unread2 .ensures .0)
+          (refuses-none 14 (name-beyond (s .args .bytes .now) (s .args .at) (s .args .len) (l .before .if1 .left) (omega (arith, t .if2 .taken, l .left-from .ensures)))),
+      c .unread2 .ensures .1,
     )
 
 copied-requires : tie.Need-copied-requires
@@ -43,7 +44,7 @@ returns-3 c =
     let l = t .before in
     let s = l .before .before .before in (
       rw (c .copied .ensures)
-          (name-there (s .args .bytes .now) (s .args .at) (s .args .len) (l .before .if1 .left) (omega (arith, t .if2 .left, l .left-from .ensures))),
+          (tells-some 14 (name-there (s .args .bytes .now) (s .args .at) (s .args .len) (l .before .if1 .left) (omega (arith, t .if2 .left, l .left-from .ensures)))),
       l .before .if1 .left,
     )
 
@@ -51,10 +52,10 @@ pub read-name-spec : {M : Type 1} → statement M
 read-name-spec =
     tie.close
     (tie.spec
-    no-name-requires
+    unread-requires
     returns
     left-from-requires
-    no-name-requires-2
+    unread-requires-2
     returns-2
     copied-requires
     cast-t10

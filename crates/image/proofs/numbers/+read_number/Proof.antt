@@ -1,12 +1,13 @@
 use Prim.Native.Nat.{ℕ, _+_, _/_, _<_, _≤_}
-use mathlib.Core.Path.{_≡_, sym}
+use mathlib.Core.Path.{_≡_}
 use native.Mathlib.Nat.{div-add-mod}
 use native.Mathlib.Omega.{arith}
 use borrow.Author.Needs.{needs}
 use mathlib.Core.Option.{some}
 use lib.ListN.{length, getD, drop}
-use Rattle.image.specs.Strict.{upTo}
-use Rattle.image.proofs.Shortest.{whole-up-to}
+use Rattle.model.specs.Image.{upTo}
+use Rattle.model.proofs.Told.{told-value, refuses-none}
+use Rattle.model.proofs.Image.Numbers.{whole-up-to}
 use Rattle.image.proofs.NumberLaws.{at-end, at-last, at-most, rest-refused, rest-zero, rest-read}
 use borrow.Fn.Kinds.{In}
 use borrow.Fn.PlainCycle.{Measures, is, falls, and}
@@ -48,14 +49,14 @@ module _ (t : ℕ) (c : read-number-lts.After-rest (calls t) (read-number-at t) 
   abbrev group : read-number-lts.Else2 (calls t) (read-number-at t) read-number.Post
   group = c .before .before .before .before
 
-  told : some (c .rest .given .0 .0, drop (c .rest .given .0 .1 .0) (start t group .args .bytes .now)) ≡ upTo (start t group .args .most / 128) (drop (start t group .args .at + 1) (start t group .args .bytes .now))
-  told = rw (c .rest .given .1) at (c .before .before .read-number .ensures)
+  told : upTo (start t group .args .most / 128) (drop (start t group .args .at + 1) (start t group .args .bytes .now)) ≡ some (c .rest .given .0 .0, drop (c .rest .given .0 .1 .0) (start t group .args .bytes .now))
+  told = told-value 14 _ _ (rw (c .rest .given .1) at (c .before .before .read-number .ensures))
 
   high-le : c .rest .given .0 .0 ≤ start t group .args .most / 128
-  high-le = whole-up-to _ _ _ _ (sym told) .1
+  high-le = whole-up-to _ _ _ _ told .1
 
 read-number-returns : (t : ℕ) → read-number-lts.Need-returns (calls t) (read-number-at t) read-number.Post
-read-number-returns t c = at-end _ _ _ (c .if1 .taken)
+read-number-returns t c = refuses-none 14 (at-end _ _ _ (c .if1 .taken))
 
 read-number-shared-slice-read-wide : (t : ℕ) → read-number-lts.Need-shared-slice-read-wide (calls t) (read-number-at t) read-number.Post
 read-number-shared-slice-read-wide t c = search needs
@@ -77,7 +78,7 @@ read-number-returns-2 t c =
     rw (c .up-to .ensures, e) (at-last (s .args .bytes .now) (s .args .at) (s .args .most) (w .before .before .if1 .left) (omega (arith, c .before .if2 .taken, e)))
 
 read-number-returns-3 : (t : ℕ) → read-number-lts.Need-returns-3 (calls t) (read-number-at t) read-number.Post
-read-number-returns-3 t c = at-most _ _ _ (inside t (c .before)) (large t (c .before)) (c .if3 .taken)
+read-number-returns-3 t c = refuses-none 14 (at-most _ _ _ (inside t (c .before)) (large t (c .before)) (c .if3 .taken))
 
 read-number-add-read-number : (t : ℕ) → read-number-lts.Need-add-read-number (calls t) (read-number-at t) read-number.Post
 read-number-add-read-number t c = search needs
@@ -97,7 +98,7 @@ read-number-returns-4 : (t : ℕ) → read-number-lts.Need-returns-4 (calls t) (
 read-number-returns-4 t c =
     let r = c .before .before in
     let e = group t r in
-    rest-zero _ _ _ (inside t e) (large t e) (r .rest .given .0 .0) (r .rest .given .0 .1 .0) (c .if4 .taken) (told t r)
+    refuses-none 14 (rest-zero _ _ _ (inside t e) (large t e) (r .rest .given .0 .0) (r .rest .given .0 .1 .0) (c .if4 .taken) (told t r))
 
 read-number-mul-up-to : (t : ℕ) → read-number-lts.Need-mul-up-to (calls t) (read-number-at t) read-number.Post
 read-number-mul-up-to t c =
@@ -119,7 +120,7 @@ read-number-returns-5 : (t : ℕ) → read-number-lts.Need-returns-5 (calls t) (
 read-number-returns-5 t c =
     let r = c .before .before in
     let e = r .before .before in
-    rest-refused _ _ _ (inside t e) (large t e) (rw (c .enum-told .given .1) at (r .read-number .ensures))
+    refuses-none 14 (rest-refused _ _ _ (inside t e) (large t e) (told-value 14 _ _ (rw (c .enum-told .given .1) at (r .read-number .ensures))))
 
 read-number-returns-6 : (t : ℕ) → read-number-lts.Need-returns-6 (calls t) (read-number-at t) read-number.Post
 read-number-returns-6 t c =

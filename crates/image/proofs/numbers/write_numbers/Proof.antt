@@ -1,17 +1,17 @@
 use Prim.Native.Nat.{_+_, _-_, _≤_}
-use mathlib.Core.Path.{_≡_, refl, _∙_}
+use mathlib.Core.Path.{_≡_}
 use mathlib.Core.List.{_++_}
 use native.Mathlib.Omega.{arith}
 use borrow.Author.Needs.{needs}
 use lib.ListN.{length, take, drop, getD}
 use Rattle.model.specs.Image.{whole, numbers}
-use Rattle.image.proofs.Puts.{Left, left-all, left-done, left-put, left-fits, put-long, numbers-turn, numbers-end}
+use Rattle.image.proofs.Left.{Left, left-all, left-done, left-wrote, left-fits, numbers-turn, numbers-end}
 use Rattle.image.proofs.numbers.write_numbers.Statement.{statement}
 use Rattle.image.proofs.numbers.write_numbers.Tie as tie
 
 abbrev Inv-loop : tie.InvT-loop
 Inv-loop out₀ at count values next₀ i₀ out next i =
-    (i ≤ count) × (length out ≡ length out₀) × Left (numbers (take count values)) at out₀ (numbers (drop i (take count values))) next out
+    (i ≤ count) × Left (numbers (take count values)) at out₀ (numbers (drop i (take count values))) next out
 
 abbrev μ-loop : tie.MeasureT-loop
 μ-loop out₀ at count values next₀ i₀ out next i = count - i
@@ -29,10 +29,10 @@ next-left : (c : tie.In-loop Inv-loop μ-loop) → (
 next-left c =
     let l = c .before in
     let s = l .before .before in
-    rw (numbers-turn (s .args .t3) (s .args .count) (l .loop .i) (c .loop-test .taken) (omega (arith, long s, s .pre .0))) at (l .loop .inv .2)
+    rw (numbers-turn (s .args .t3) (s .args .count) (l .loop .i) (omega (arith, long s, s .pre .0)) (c .loop-test .taken)) at (l .loop .inv .1)
 
 loop-holds : tie.Need-loop-holds Inv-loop μ-loop
-loop-holds c = (omega arith, refl, left-all _ _ _)
+loop-holds c = (omega arith, left-all _ _ _)
 
 mul-write-number : tie.Need-mul-write-number Inv-loop μ-loop
 mul-write-number c = search needs
@@ -44,7 +44,7 @@ write-number-requires : tie.Need-write-number-requires Inv-loop μ-loop
 write-number-requires c κs =
     let l = c .before .before in
     let s = l .before .before in
-    left-fits (whole (getD (s .args .t3) (l .loop .i) 0)) (numbers (drop (l .loop .i + 1) (take (s .args .count) (s .args .t3)))) (length (l .loop .out)) (next-left (c .before)) (omega (arith, l .loop .inv .1, s .pre .1))
+    left-fits (whole (getD (s .args .t3) (l .loop .i) 0)) (numbers (drop (l .loop .i + 1) (take (s .args .count) (s .args .t3)))) (next-left (c .before)) (s .pre .1)
 
 add-i : tie.Need-add-i Inv-loop μ-loop
 add-i c = search needs
@@ -56,17 +56,16 @@ loop-again : tie.Need-loop-again Inv-loop μ-loop
 loop-again c =
     let w = c .before .before in
     let t = w .before .before in
-    let l = t .before in
-    (omega (arith, t .loop-test .taken), put-long (w .write-number .ensures) ∙ l .loop .inv .1, left-put (next-left t) (w .write-number .ensures))
+    (omega (arith, t .loop-test .taken), left-wrote (next-left t) (w .write-number .ensures))
 
 same-length : tie.Need-same-length Inv-loop μ-loop
-same-length c = c .before .loop .inv .1
+same-length c = c .before .loop .inv .1 .long
 
 returns : tie.Need-returns Inv-loop μ-loop
 returns c =
     let l = c .before in
     let s = l .before .before in
-    left-done (rw (numbers-end (s .args .t3) (s .args .count) (l .loop .i) (c .loop-test .left) (omega (arith, long s, s .pre .0))) at (l .loop .inv .2))
+    left-done (rw (numbers-end (s .args .t3) (s .args .count) (l .loop .i) (omega (arith, long s, s .pre .0)) (c .loop-test .left)) at (l .loop .inv .1))
 
 pub write-numbers-spec : {M : Type 1} → statement M
 write-numbers-spec =

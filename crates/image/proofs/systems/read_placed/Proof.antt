@@ -1,13 +1,15 @@
 use Prim.Native.Nat.{ℕ, _≤_, _<_}
-use mathlib.Core.Path.{_≡_, sym}
+use mathlib.Core.Path.{_≡_}
 use mathlib.Core.Option.{some}
 use native.Mathlib.Omega.{arith}
 use lib.ListN.{take, drop, getD}
 use borrow.Author.Tests.{not-true, not-false, le-leb}
+use Rattle.model.specs.Limits.{nameLimit}
 use Rattle.model.specs.Stored.{bytesOf}
-use Rattle.image.specs.Strict.{several, mostByte, mostOffset}
-use Rattle.image.proofs.Several.{stored-low}
+use Rattle.model.specs.Image.{several, mostByte, mostOffset}
+use Rattle.model.proofs.Image.Several.{stored-low}
 use Rattle.image.proofs.SystemSteps.{no-offsets, no-turns, placed}
+use Rattle.model.proofs.Told.{told-value, tells-some, refuses-none}
 use borrow.Author.Needs.{needs}
 use Rattle.image.proofs.systems.read_placed.Statement.{statement}
 use Rattle.image.proofs.systems.read_placed.Tie as tie
@@ -17,7 +19,7 @@ offsets-read : (c : tie.Else1) → (
     let s = r .before .before in
     several 3 mostOffset (drop (s .args .at) (s .args .bytes .now)) ≡ some (take 3 (r .read-numbers .result .values), drop (r .read-numbers .result .next) (s .args .bytes .now))
     )
-offsets-read c = let r = c .before .before in sym (rw (not-false (r .read-numbers .result .ok) (c .if1 .left)) at (r .read-numbers .ensures))
+offsets-read c = let r = c .before .before in told-value 14 _ _ (rw (not-false (r .read-numbers .result .ok) (c .if1 .left)) at (r .read-numbers .ensures))
 
 turns-read : (c : tie.Else2) → (
     let q = c .before .before in
@@ -25,10 +27,10 @@ turns-read : (c : tie.Else2) → (
     let b = r .before .before .args .bytes .now in
     several 4 mostByte (drop (r .read-numbers .result .next) b) ≡ some (take 4 (q .read-numbers2 .result .values), drop (q .read-numbers2 .result .next) b)
     )
-turns-read c = let q = c .before .before in sym (rw (not-false (q .read-numbers2 .result .ok) (c .if2 .left)) at (q .read-numbers2 .ensures))
+turns-read c = let q = c .before .before in told-value 14 _ _ (rw (not-false (q .read-numbers2 .result .ok) (c .if2 .left)) at (q .read-numbers2 .ensures))
 
 low-turns : (c : tie.Else2) (i : ℕ) → i < 4 → getD (c .before .before .read-numbers2 .result .values) i 0 ≤ 255
-low-turns c = stored-low 4 mostByte _ (c .before .before .read-numbers2 .result .values) _ (turns-read c)
+low-turns c = stored-low mostByte 4 _ (c .before .before .read-numbers2 .result .values) _ (turns-read c)
 
 read-numbers-requires : tie.Need-read-numbers-requires
 read-numbers-requires c κs = search needs
@@ -40,8 +42,8 @@ returns : tie.Need-returns
 returns c =
     let r = c .before .before .before in
     let s = r .before .before in
-    let e = rw (not-true (r .read-numbers .result .ok) (c .before .if1 .taken)) at (r .read-numbers .ensures) in
-    (rw (c .no-system .ensures .0) (sym (no-offsets _ (s .args .kind) (bytesOf (s .args .name)) (sym e))), c .no-system .ensures .1)
+    let e = told-value 14 _ _ (rw (not-true (r .read-numbers .result .ok) (c .before .if1 .taken)) at (r .read-numbers .ensures)) in
+    (rw (c .no-system .ensures .0) (refuses-none 14 (no-offsets _ (s .args .kind) (bytesOf (s .args .name)) e)), c .no-system .ensures .1)
 
 read-numbers-requires-2 : tie.Need-read-numbers-requires-2
 read-numbers-requires-2 c κs = search needs
@@ -55,16 +57,16 @@ returns-2 c =
     let e1 = q .before in
     let r = e1 .before .before in
     let s = r .before .before in
-    let e = rw (not-true (q .read-numbers2 .result .ok) (c .before .if2 .taken)) at (q .read-numbers2 .ensures) in (
+    let e = told-value 14 _ _ (rw (not-true (q .read-numbers2 .result .ok) (c .before .if2 .taken)) at (q .read-numbers2 .ensures)) in (
       rw (c .no-system2 .ensures .0)
-          (sym (no-turns _ (s .args .kind) (bytesOf (s .args .name)) (r .read-numbers .result .values) _ (offsets-read e1) (sym e))),
+          (refuses-none 14 (no-turns _ (s .args .kind) (bytesOf (s .args .name)) (r .read-numbers .result .values) _ (offsets-read e1) e)),
       c .no-system2 .ensures .1,
     )
 
 offset-from-requires : tie.Need-offset-from-requires
 offset-from-requires c κs =
     let e1 = c .before .before .before .before .before in
-    let low = stored-low 3 mostOffset _ (e1 .before .before .read-numbers .result .values) _ (offsets-read e1) in
+    let low = stored-low mostOffset 3 _ (e1 .before .before .read-numbers .result .values) _ (offsets-read e1) in
     (omega (arith, low 0 (omega arith)), omega (arith, low 1 (omega arith)), omega (arith, low 2 (omega arith)))
 
 turns-from-requires : tie.Need-turns-from-requires
@@ -84,8 +86,8 @@ returns-3 c =
     let r = e1 .before .before in
     let s = r .before .before in (
       rw (c .before .offset-from .ensures, c .turns-from .ensures)
-          (sym (placed _ (s .args .kind) (bytesOf (s .args .name)) (r .read-numbers .result .values) _ (offsets-read e1) (q .read-numbers2 .result .values) _ (turns-read e2))),
-      le-leb (s .args .name .len) 16 (s .pre),
+          (tells-some 14 (placed _ (s .args .kind) (bytesOf (s .args .name)) (r .read-numbers .result .values) _ (offsets-read e1) (q .read-numbers2 .result .values) _ (turns-read e2))),
+      le-leb (s .args .name .len) nameLimit (s .pre),
     )
 
 pub read-placed-spec : {M : Type 1} → statement M

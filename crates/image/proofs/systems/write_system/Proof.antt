@@ -1,60 +1,73 @@
 use Prim.Native.Nat.{ℕ, _+_, _≤_}
-use mathlib.Core.Path.{_≡_, refl, _∙_}
+use mathlib.Core.Path.{_≡_}
 use mathlib.Core.List.{List, [], _++_}
 use native.Mathlib.Omega.{arith}
 use lib.ListN.{length, take}
-use lib.Seq.{length-take-le}
 use borrow.Author.Tests.{leb-true}
+use Rattle.model.specs.Limits.{nameLimit}
 use Rattle.model.specs.Image.{numbers, systemBytes}
 use Rattle.model.specs.Stored.{bytesOf, systemOf}
-use Rattle.image.proofs.Puts.{Left, left-put, left-fits, left-done, put-long}
-use Rattle.image.proofs.SystemPuts.{after-offsets, after-name, after-head, system-left}
+use Rattle.image.proofs.Left.{Left, left-all, left-wrote, left-fits, left-done}
+use Rattle.image.proofs.SystemLeft.{system-parts}
 use borrow.Author.Needs.{needs}
 use Rattle.image.proofs.systems.write_system.Statement.{statement}
 use Rattle.image.proofs.systems.write_system.Tie as tie
 
--- what is left to write, before each of the four writes
+-- the stages, each by the one after it: all numbers are there, then the head, the name and the offsets are written
+abbrev ready : tie.After-write-numbers → tie.After-turned-of
+ready c = c .before .before
+
+abbrev headed : tie.After-put-name → tie.After-write-numbers
+headed c = c .before .before .before .before
+
+abbrev named : tie.After-write-numbers2 → tie.After-put-name
+named c = c .before .before .before .before
+
+-- the text and its parts
 module _ (c : tie.After-turned-of) where
   abbrev start : tie.Start
   start = c .before .before .before .before .before .before .before
 
   abbrev head : List ℕ
-  head = c .before .before .head-of .result
+  head = numbers (take 2 (c .before .before .head-of .result))
+
+  abbrev name : List ℕ
+  name = bytesOf (start .args .s .name)
 
   abbrev offsets : List ℕ
-  offsets = c .before .offsets-of .result
+  offsets = numbers (take 3 (c .before .offsets-of .result))
 
   abbrev turned : List ℕ
-  turned = c .turned-of .result
+  turned = numbers (take 4 (c .turned-of .result))
 
+  -- the rest is left to write at i of a
   abbrev LeftOf : List ℕ → ℕ → List ℕ → Type 0
   LeftOf rest i a = Left (systemBytes (systemOf (start .args .s))) (start .args .at) (start .args .out .now) rest i a
 
-  long : length (start .args .s .name .bytes) ≡ 16
+  long : length (start .args .s .name .bytes) ≡ nameLimit
   long = search needs
 
-  short : start .args .s .name .len ≤ 16
-  short = leb-true (start .args .s .name .len) 16 (start .pre .0 .0)
+  short : start .args .s .name .len ≤ nameLimit
+  short = leb-true (start .args .s .name .len) nameLimit (start .pre .0 .0)
 
-  name-long : length (bytesOf (start .args .s .name)) ≡ start .args .s .name .len
-  name-long = length-take-le (start .args .s .name .len) (start .args .s .name .bytes) (omega (arith, short, long))
+  all-left : LeftOf (head ++ (name ++ (offsets ++ (turned ++ [])))) (start .args .at) (start .args .out .now)
+  all-left =
+      let h = c .before .before .head-of in
+      let o = c .before .offsets-of in
+      let t = c .turned-of in
+      rw (system-parts (start .args .s) (h .result) (o .result) (t .result) long short (h .ensures) (o .ensures) (t .ensures)) (left-all _ (start .args .at) (start .args .out .now))
 
-  left-all : LeftOf (numbers (take 2 head) ++ after-head (start .args .s) head offsets turned) (start .args .at) (start .args .out .now)
-  left-all =
-      system-left (start .args .s) head offsets turned (start .args .at) (start .args .out .now) long short (c .before .before .head-of .ensures) (c .before .offsets-of .ensures) (c .turned-of .ensures)
+  room : (x rest : List ℕ) (i : ℕ) (a : List ℕ) → LeftOf (x ++ rest) i a → i + length x ≤ length a
+  room x rest i a l = left-fits x rest l (start .pre .0 .1)
 
-  -- a part fits wherever the buffer is as long as it was
-  room : (x rest : List ℕ) (i : ℕ) (a : List ℕ) → length a ≡ length (start .args .out .now) → LeftOf (x ++ rest) i a → i + length x ≤ length a
-  room x rest i a e l = left-fits x rest (length a) l (omega (arith, start .pre .0 .1))
+left-named : (c : tie.After-write-numbers) → (let t = ready c in LeftOf t (name t ++ (offsets t ++ (turned t ++ []))) (c .write-numbers .result) (c .write-numbers .last .0))
+left-named c = left-wrote (all-left (ready c)) (c .write-numbers .ensures)
 
-left-named : (c : tie.After-write-numbers) → (let t = c .before .before in LeftOf t (after-head (start t .args .s) (head t) (offsets t) (turned t)) (c .write-numbers .result) (c .write-numbers .last .0))
-left-named c = left-put (left-all (c .before .before)) (c .write-numbers .ensures)
+left-placed : (c : tie.After-put-name) → (let t = ready (headed c) in LeftOf t (offsets t ++ (turned t ++ [])) (c .put-name .result) (c .put-name .last .0))
+left-placed c = left-wrote (left-named (headed c)) (c .put-name .ensures)
 
-left-placed : (c : tie.After-write-name) → (let t = c .before .before .before .before .before .before in LeftOf t (after-name (start t .args .s) (head t) (offsets t) (turned t)) (c .write-name .result) (c .write-name .last .0))
-left-placed c = left-put (left-named (c .before .before .before .before)) (c .write-name .ensures)
-
-left-turned : (c : tie.After-write-numbers2) → (let t = c .before .before .before .before .before .before .before .before .before .before in LeftOf t (after-offsets (start t .args .s) (head t) (offsets t) (turned t)) (c .write-numbers2 .result) (c .write-numbers2 .last .0))
-left-turned c = left-put (left-placed (c .before .before .before .before)) (c .write-numbers2 .ensures)
+left-turned : (c : tie.After-write-numbers2) → (let t = ready (headed (named c)) in LeftOf t (turned t ++ []) (c .write-numbers2 .result) (c .write-numbers2 .last .0))
+left-turned c = left-wrote (left-placed (named c)) (c .write-numbers2 .ensures)
 
 head-of-requires : tie.Need-head-of-requires
 head-of-requires c κs = search needs
@@ -66,46 +79,31 @@ turned-of-requires : tie.Need-turned-of-requires
 turned-of-requires c κs = search needs
 
 write-numbers-requires : tie.Need-write-numbers-requires
-write-numbers-requires c κs =
-    let t = c .before in
-    (omega arith, room t (numbers (take 2 (head t))) (after-head (start t .args .s) (head t) (offsets t) (turned t)) _ _ refl (left-all t))
+write-numbers-requires c κs = let t = c .before in (omega arith, room t (head t) (name t ++ (offsets t ++ (turned t ++ []))) _ _ (all-left t))
 
-write-name-requires : tie.Need-write-name-requires
-write-name-requires c κs =
+put-name-requires : tie.Need-put-name-requires
+put-name-requires c κs =
     let w = c .before .before .before in
-    let t = w .before .before in (
-      short t,
-      omega (
-        arith,
-        name-long t,
-        room t (bytesOf (start t .args .s .name)) (after-name (start t .args .s) (head t) (offsets t) (turned t)) _ _ (put-long (w .write-numbers .ensures)) (left-named w),
-      ),
-    )
+    let t = ready w in
+    (short t, room t (name t) (offsets t ++ (turned t ++ [])) _ _ (left-named w))
 
 write-numbers-requires-2 : tie.Need-write-numbers-requires-2
 write-numbers-requires-2 c κs =
     let w = c .before .before .before in
-    let v = w .before .before .before .before in
-    let t = v .before .before in (
-      omega arith,
-      room t (numbers (take 3 (offsets t))) (after-offsets (start t .args .s) (head t) (offsets t) (turned t)) _ _ (put-long (w .write-name .ensures) ∙ put-long (v .write-numbers .ensures)) (left-placed w),
-    )
+    let t = ready (headed w) in
+    (omega arith, room t (offsets t) (turned t ++ []) _ _ (left-placed w))
 
 write-numbers-requires-3 : tie.Need-write-numbers-requires-3
 write-numbers-requires-3 c κs =
-    let x = c .before .before .before in
-    let w = x .before .before .before .before in
-    let v = w .before .before .before .before in
-    let t = v .before .before in (
-      omega arith,
-      room t (numbers (take 4 (turned t))) [] _ _ (put-long (x .write-numbers2 .ensures) ∙ put-long (w .write-name .ensures) ∙ put-long (v .write-numbers .ensures)) (left-turned x),
-    )
+    let w = c .before .before .before in
+    let t = ready (headed (named w)) in
+    (omega arith, room t (turned t) [] _ _ (left-turned w))
 
 same-length : tie.Need-same-length
 same-length c = search needs
 
 returns : tie.Need-returns
-returns c = let w = c .before .before in left-done (left-put (left-turned (w .before .before .before .before)) (w .write-numbers3 .ensures))
+returns c = let w = c .before .before in left-done (left-wrote (left-turned (w .before .before .before .before)) (w .write-numbers3 .ensures))
 
 pub write-system-spec : {M : Type 1} → statement M
 write-system-spec =
@@ -115,7 +113,7 @@ write-system-spec =
     offsets-of-requires
     turned-of-requires
     write-numbers-requires
-    write-name-requires
+    put-name-requires
     write-numbers-requires-2
     write-numbers-requires-3
     same-length

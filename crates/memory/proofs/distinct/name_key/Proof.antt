@@ -5,11 +5,12 @@ use borrow.Author.Needs.{needs}
 use lib.ListN.{length, getD}
 use mir.Syntax.{w8}
 use mir.Val.{Fits}
+use Rattle.model.specs.Limits.{nameLimit}
 use Rattle.memory.proofs.Keys.{key-none, key-stored}
 use Rattle.memory.proofs.distinct.name_key.Statement.{statement}
 use Rattle.memory.proofs.distinct.name_key.Tie as tie
 
-long : (c : tie.Start) → length (c .args .n .bytes) ≡ 16
+long : (c : tie.Start) → length (c .args .n .bytes) ≡ nameLimit
 long c = search needs
 
 byte : (c : tie.Start) (i : ℕ) → Fits w8 (getD (c .args .n .bytes) i 0)

@@ -4,6 +4,7 @@ use native.Mathlib.Omega.{arith}
 use borrow.Author.Needs.{needs}
 use lib.ListN.{length, take, length-map, length-set}
 use lib.Seq.{take-all}
+use Rattle.model.specs.Limits.{maxSystems}
 use Rattle.model.specs.Memory.{System}
 use Rattle.model.specs.Stored.{systemsOf}
 use Rattle.chains.proofs.Copies.{length-mapped}
@@ -13,12 +14,12 @@ use Rattle.memory.proofs.distinct.name_keys.Statement.{statement}
 use Rattle.memory.proofs.distinct.name_keys.Tie as tie
 
 abbrev Inv-loop : tie.InvT-loop
-Inv-loop m count keys₀ i₀ keys i = (i ≤ count) × (length keys ≡ 16) × (take i keys ≡ take i (keysOf (systemsOf m)))
+Inv-loop m count keys₀ i₀ keys i = (i ≤ count) × (length keys ≡ maxSystems) × (take i keys ≡ take i (keysOf (systemsOf m)))
 
 abbrev μ-loop : tie.MeasureT-loop
 μ-loop m count keys₀ i₀ keys i = count - i
 
-long : (c : tie.Start Inv-loop μ-loop) → length (c .args .t1 .systems) ≡ 16
+long : (c : tie.Start Inv-loop μ-loop) → length (c .args .t1 .systems) ≡ maxSystems
 long c = search (length-mapped, needs)
 
 -- there are as many keys as systems
@@ -66,7 +67,7 @@ returns : tie.Need-returns Inv-loop μ-loop
 returns c =
     let l = c .before in
     let n = keyed l in
-    let i : min (c .before .before .before .args .t1 .count) 16 ≡ l .loop .i = omega (arith, l .before .held .ensures) in
+    let i : min (c .before .before .before .args .t1 .count) maxSystems ≡ l .loop .i = omega (arith, l .before .held .ensures) in
     rw i (l .loop .inv .2 ∙ take-all (l .loop .i) _ (omega arith))
 
 pub name-keys-spec : {M : Type 1} → statement M

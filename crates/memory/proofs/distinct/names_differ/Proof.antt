@@ -4,6 +4,7 @@ use native.Mathlib.Omega.{arith}
 use borrow.Author.Needs.{needs}
 use mathlib.Core.Bool.{false}
 use lib.ListN.{length, take, getD}
+use Rattle.model.specs.Limits.{maxSystems}
 use Rattle.model.specs.Memory.{blank}
 use Rattle.model.specs.WellFormed.{namesDiffer}
 use Rattle.model.specs.Stored.{systemsOf}
@@ -19,9 +20,9 @@ abbrev Inv-loop : tie.InvT-loop
 Inv-loop m count keys i₀ j₀ i j = (i ≤ count) × (i < j) × (namesDiffer (systemsOf m) ≡ left (systemsOf m) i j)
 
 abbrev μ-loop : tie.MeasureT-loop
-μ-loop m count keys i₀ j₀ i j = (count - i) * 17 + (count - j)
+μ-loop m count keys i₀ j₀ i j = (count - i) * (maxSystems + 1) + (count - j)
 
-long : (c : tie.Start Inv-loop μ-loop) → length (c .args .t1 .systems) ≡ 16
+long : (c : tie.Start Inv-loop μ-loop) → length (c .args .t1 .systems) ≡ maxSystems
 long c = search (length-mapped, needs)
 
 counted : (c : tie.At-loop Inv-loop μ-loop) → length (systemsOf (c .before .before .before .args .t1)) ≡ c .before .before .held .result

@@ -4,6 +4,7 @@ use native.Mathlib.Omega.{arith}
 use borrow.Author.Needs.{needs}
 use borrow.Author.Tests.{lt-ltb}
 use lib.ListN.{length}
+use Rattle.model.specs.Limits.{maxSystems}
 use Rattle.memory.specs.Put.{putAt}
 use Rattle.chains.proofs.Copies.{length-mapped}
 use Rattle.memory.proofs.Shape.{shaped-set, shaped-more}
@@ -11,7 +12,7 @@ use Rattle.memory.proofs.Edits.{stored-set, stored-last}
 use Rattle.memory.proofs.edit.put_at.Statement.{statement}
 use Rattle.memory.proofs.edit.put_at.Tie as tie
 
-long : (c : tie.Start) → length (c .args .m .systems) ≡ 16
+long : (c : tie.Start) → length (c .args .m .systems) ≡ maxSystems
 long c = search (length-mapped, needs)
 
 cast-last : tie.Need-cast-last

@@ -8,6 +8,7 @@ use borrow.Author.Tests.{le-leb}
 use lib.Dec.{leb}
 use lib.ListN.{length, take, getD, length-set}
 use lib.Seq.{take-all}
+use Rattle.model.specs.Limits.{maxSystems, nameLimit}
 use Rattle.model.specs.declared.Name.{Name}
 use Rattle.model.specs.Lists.{all}
 use Rattle.model.specs.Memory.{System, systemAt}
@@ -25,14 +26,14 @@ use Rattle.memory.proofs.edit.removed_at.Tie as tie
 -- before index i lies what is to lie there; from it on all is as it was
 abbrev Inv-loop : tie.InvT-loop
 Inv-loop place last hole m p i₀ r i =
-    (i ≤ last) × (length (r .systems) ≡ 16) × (map systemOf (take i (r .systems)) ≡ take i (without (systemsOf m) place)) ×
+    (i ≤ last) × (length (r .systems) ≡ maxSystems) × (map systemOf (take i (r .systems)) ≡ take i (without (systemsOf m) place)) ×
     (memoryShaped m ≡ true → all nameShaped (take i (r .systems)) ≡ true) ×
     ((j : ℕ) → i ≤ j → getD (r .systems) j unset ≡ getD (m .systems) j unset) × (r .enabled ≡ m .enabled)
 
 abbrev μ-loop : tie.MeasureT-loop
 μ-loop place last hole m p i₀ r i = last - i
 
-long : (c : tie.Start Inv-loop μ-loop) → length (c .args .m .systems) ≡ 16
+long : (c : tie.Start Inv-loop μ-loop) → length (c .args .m .systems) ≡ maxSystems
 long c = search (length-mapped, needs)
 
 -- the place is one of those that count
@@ -105,7 +106,7 @@ loop-again c =
           (c .mended-system .ensures .0 ∙ rw (read, ← gone-pred (c .before .before .before .before .before .before), c .before .before .kept-at .ensures) (sym e)),
       λ q.
           all-more nameShaped (c .mended-system .result)
-          (ap (λ (x : Name). leb (x .len) 16) (c .mended-system .ensures .1) ∙ rw read (shaped-at m q unset (c .before .before .kept-at .result) at (omega (arith, long s, shaped-count m q))))
+          (ap (λ (x : Name). leb (x .len) nameLimit) (c .mended-system .ensures .1) ∙ rw read (shaped-at m q unset (c .before .before .kept-at .result) at (omega (arith, long s, shaped-count m q))))
           (l .loop .r .systems) (l .loop .i) within (l .loop .inv .3 q),
       still-turn (l .loop .r .systems) (m .systems) (l .loop .i) (c .mended-system .result) (l .loop .inv .4),
       l .loop .inv .5,
@@ -130,7 +131,7 @@ returns c =
     rw last (l .loop .inv .2 ∙ take-all (l .loop .i) (without (systemsOf m) (s .args .place)) (omega arith)) in
     let f : c .mended-enabled .result ≡ mendedEnabled (mended (s .args .place) (systemAt (systemsOf m) (s .args .place) .pred)) (m .enabled) =
     c .mended-enabled .ensures ∙ rw (gone-pred h, l .loop .inv .5) in
-    (λ d. record { systems = e d; enabled = f d }, λ q. and-join (le-leb (h .held .result - 1) 16 (omega (arith, h .held .ensures))) (rw last (l .loop .inv .3 q)))
+    (λ d. record { systems = e d; enabled = f d }, λ q. and-join (le-leb (h .held .result - 1) maxSystems (omega (arith, h .held .ensures))) (rw last (l .loop .inv .3 q)))
 
 pub removed-at-spec : {M : Type 1} → statement M
 removed-at-spec =

@@ -6,7 +6,7 @@ use Rattle.model.specs.declared.Group.the-variants.{Operating}
 use Rattle.model.specs.Memory.{Memory, refOr, userRef, systemAt}
 use Rattle.model.specs.Effects.{enabling}
 use Rattle.model.specs.Use.{inGroup}
-use Rattle.memory.specs.Found.{foundRef, foundPlace}
+use Rattle.memory.specs.Found.{foundTold, foundPlace}
 use Rattle.memory.proofs.enable.enabling.Statement.{statement}
 use Rattle.memory.proofs.enable.enabling.Tie as tie
 
@@ -35,15 +35,15 @@ enabling-at-requires-3 : tie.Need-enabling-at-requires-3
 enabling-at-requires-3 c κs = search needs
 
 returns : tie.Need-returns
-unfolding foundRef foundPlace refOr
+unfolding foundTold foundPlace refOr
 returns c = rw (c .before .before .f .given .1) (λ l q. c .enabling-at .ensures l q ∙ by-place _ _ _)
 
 returns-2 : tie.Need-returns-2
-unfolding foundRef foundPlace refOr
+unfolding foundTold foundPlace refOr
 returns-2 c = rw (c .before .before .f2 .given .1) (λ l q. c .enabling-at2 .ensures l q)
 
 returns-3 : tie.Need-returns-3
-unfolding foundRef foundPlace refOr
+unfolding foundTold foundPlace refOr
 returns-3 c = rw (c .before .enum-told .given .1) (λ l q. c .enabling-at3 .ensures l q)
 
 pub enabling-spec : {M : Type 1} → statement M

@@ -1,7 +1,8 @@
 use mathlib.Core.Path.{refl, sym, _∙_}
 use borrow.Author.Needs.{needs}
 use Rattle.model.specs.Memory.{fixedNamed}
-use Rattle.memory.specs.Found.{foundRef, foundPlace}
+use Rattle.model.specs.Told.{orNumber}
+use Rattle.memory.specs.Found.{foundTold, foundPlace}
 use Rattle.memory.proofs.find.fixed_named.Statement.{statement}
 use Rattle.memory.proofs.find.fixed_named.Tie as tie
 
@@ -12,7 +13,7 @@ same-bytes-requires : tie.Need-same-bytes-requires
 same-bytes-requires c κs = search needs
 
 returns : tie.Need-returns
-unfolding fixedNamed foundRef foundPlace
+unfolding fixedNamed orNumber foundTold foundPlace
 returns c = (λ l. rw (sym (c .before .same-bytes .ensures) ∙ c .if1 .taken), refl)
 
 slice-aggregate-same-bytes-2 : tie.Need-slice-aggregate-same-bytes-2
@@ -22,7 +23,7 @@ same-bytes-requires-2 : tie.Need-same-bytes-requires-2
 same-bytes-requires-2 c κs = search needs
 
 returns-2 : tie.Need-returns-2
-unfolding fixedNamed foundRef foundPlace
+unfolding fixedNamed orNumber foundTold foundPlace
 returns-2 c = (λ l. rw (sym (c .before .before .before .before .same-bytes .ensures) ∙ c .before .before .before .if1 .left, sym (c .before .same-bytes2 .ensures) ∙ c .if2 .taken), refl)
 
 slice-aggregate-same-bytes-3 : tie.Need-slice-aggregate-same-bytes-3
@@ -32,11 +33,11 @@ same-bytes-requires-3 : tie.Need-same-bytes-requires-3
 same-bytes-requires-3 c κs = search needs
 
 returns-3 : tie.Need-returns-3
-unfolding fixedNamed foundRef foundPlace
+unfolding fixedNamed orNumber foundTold foundPlace
 returns-3 c = (λ l. rw (sym (c .before .before .before .before .before .before .before .same-bytes .ensures) ∙ c .before .before .before .before .before .before .if1 .left, sym (c .before .before .before .before .same-bytes2 .ensures) ∙ c .before .before .before .if2 .left, sym (c .before .same-bytes3 .ensures) ∙ c .if3 .taken), refl)
 
 returns-4 : tie.Need-returns-4
-unfolding fixedNamed foundRef foundPlace
+unfolding fixedNamed orNumber foundTold foundPlace
 returns-4 c = (λ l. rw (sym (c .before .before .before .before .before .before .before .same-bytes .ensures) ∙ c .before .before .before .before .before .before .if1 .left, sym (c .before .before .before .before .same-bytes2 .ensures) ∙ c .before .before .before .if2 .left, sym (c .before .same-bytes3 .ensures) ∙ c .if3 .left), refl)
 
 pub fixed-named-spec : {M : Type 1} → statement M

@@ -3,17 +3,19 @@ use native.Mathlib.Omega.{arith}
 use borrow.Author.Needs.{needs}
 use borrow.Author.Tests.{lt-ltb, le-ltb}
 use lib.ListN.{length}
+use Rattle.model.specs.Limits.{nameLimit}
 use Rattle.model.specs.Memory.{isUser, find}
-use Rattle.memory.specs.Found.{foundRef, foundPlace}
+use Rattle.model.specs.Told.{orNumber}
+use Rattle.memory.specs.Found.{foundTold, foundPlace}
 use Rattle.memory.proofs.Laws.{name-fits, name-count, name-bytes}
 use Rattle.memory.proofs.find.found_at.Statement.{statement}
 use Rattle.memory.proofs.find.found_at.Tie as tie
 
-long : (c : tie.Start) → length (c .args .n .bytes) ≡ 16
+long : (c : tie.Start) → length (c .args .n .bytes) ≡ nameLimit
 long c = search needs
 
 returns : tie.Need-returns
-unfolding find isUser foundRef foundPlace
+unfolding find isUser orNumber foundTold foundPlace
 returns c = (λ l e q. rw (← q, lt-ltb 0 _ (c .if1 .taken)), refl)
 
 clipped-requires : tie.Need-clipped-requires

@@ -22,7 +22,7 @@ Inv-loop a b m count first₀ one₀ second₀ other₀ preds₀ i₀ first one 
 abbrev μ-loop : tie.MeasureT-loop
 μ-loop a b m count first₀ one₀ second₀ other₀ preds₀ i₀ first one second other preds i = count - i
 
-long : (c : tie.Start Inv-loop μ-loop) → length (c .args .t1 .systems) ≡ 16
+long : (c : tie.Start Inv-loop μ-loop) → length (c .args .t1 .systems) ≡ maxSystems
 long c = search (length-mapped, needs)
 
 -- one system more is seen for the first name

@@ -5,6 +5,9 @@ use Rattle.memory.proofs.Judged.{judged, judged-long}
 use Rattle.memory.proofs.fine.memory_fine.Statement.{statement}
 use Rattle.memory.proofs.fine.memory_fine.Tie as tie
 
+cast-if1 : tie.Need-cast-if1
+cast-if1 c = search needs
+
 returns : tie.Need-returns
 returns c = sym (judged-long _ (c .if1 .taken))
 
@@ -30,6 +33,7 @@ pub memory-fine-spec : {M : Type 1} → statement M
 memory-fine-spec =
     tie.close
     (tie.spec
+    cast-if1
     returns
     typed-fine-requires
     returns-2

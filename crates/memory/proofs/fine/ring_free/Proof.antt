@@ -2,6 +2,7 @@ use mathlib.Core.Path.{_≡_, _∙_}
 use native.Mathlib.Omega.{arith}
 use borrow.Author.Needs.{needs}
 use lib.ListN.{length, length-take}
+use Rattle.model.specs.Limits.{maxSystems}
 use Rattle.chains.proofs.Same.{links-no-ring}
 use Rattle.memory.proofs.fine.ring_free.Statement.{statement}
 use Rattle.memory.proofs.fine.ring_free.Tie as tie
@@ -10,10 +11,10 @@ links-of-requires : tie.Need-links-of-requires
 links-of-requires c κs = search needs
 
 array-share-prefix-preds : tie.Need-array-share-prefix-preds
-array-share-prefix-preds c = let h : length (c .before .links-of .result .preds) ≡ 16 = search needs in omega (arith, c .before .links-of .ensures .few)
+array-share-prefix-preds c = let h : length (c .before .links-of .result .preds) ≡ maxSystems = search needs in omega (arith, c .before .links-of .ensures .few)
 
 slice-aggregate-no-ring : tie.Need-slice-aggregate-no-ring
-slice-aggregate-no-ring c = let h : length (c .before .before .links-of .result .preds) ≡ 16 = search needs in simp length-take (omega (arith, c .before .before .links-of .ensures .few))
+slice-aggregate-no-ring c = let h : length (c .before .before .links-of .result .preds) ≡ maxSystems = search needs in simp length-take (omega (arith, c .before .before .links-of .ensures .few))
 
 no-ring-requires : tie.Need-no-ring-requires
 no-ring-requires c κs = search needs

@@ -1,30 +1,33 @@
 use mathlib.Core.Path.{sym, _∙_}
 use borrow.Author.Needs.{needs}
 use borrow.Author.Tests.{not-true, not-false, le-leb, lt-leb}
-use Rattle.model.specs.Stored.{systemOf}
+use Rattle.model.specs.Limits.{nameLimit}
+use Rattle.model.specs.WellFormed.{systemFine}
 use Rattle.memory.specs.Fine.{storedFine}
-use Rattle.memory.proofs.Judged.{alone-and-link}
 use Rattle.memory.proofs.fine.stored_fine.Statement.{statement}
 use Rattle.memory.proofs.fine.stored_fine.Tie as tie
 
-returns : tie.Need-returns
-unfolding storedFine
-returns c = λ l e. rw (lt-leb _ 16 (c .if1 .taken))
+cast-if1 : tie.Need-cast-if1
+cast-if1 c = search needs
 
-alone-fine-requires : tie.Need-alone-fine-requires
-alone-fine-requires c κs = search needs
+returns : tie.Need-returns
+unfolding storedFine systemFine
+returns c = λ l e. rw (lt-leb _ nameLimit (c .if1 .taken))
+
+own-fine-requires : tie.Need-own-fine-requires
+own-fine-requires c κs = search needs
 
 returns-2 : tie.Need-returns-2
-unfolding storedFine
-returns-2 c = λ l e. rw (le-leb _ 16 (c .before .before .if1 .left), alone-and-link l (systemOf (c .before .before .before .before .before .before .args .s)), sym (c .before .alone-fine .ensures) ∙ not-true _ (c .if2 .taken))
+unfolding storedFine systemFine
+returns-2 c = λ l e. rw (le-leb _ nameLimit (c .before .before .if1 .left), sym (c .before .own-fine .ensures) ∙ not-true _ (c .if2 .taken))
 
 is-kind-requires : tie.Need-is-kind-requires
 is-kind-requires c κs = search needs
 
 returns-3 : tie.Need-returns-3
-unfolding storedFine
-returns-3 c = λ l e. rw (le-leb _ 16 (c .before .before .before .if1 .left), alone-and-link l (systemOf (c .before .before .before .before .before .before .before .args .s)), sym (c .before .before .alone-fine .ensures) ∙ not-false _ (c .before .if2 .left)) (c .is-kind .ensures l e)
+unfolding storedFine systemFine
+returns-3 c = λ l e. rw (le-leb _ nameLimit (c .before .before .before .if1 .left), sym (c .before .before .own-fine .ensures) ∙ not-false _ (c .before .if2 .left)) (c .is-kind .ensures l e)
 
 pub stored-fine-spec : {M : Type 1} → statement M
 stored-fine-spec =
-    tie.close (tie.spec returns alone-fine-requires returns-2 is-kind-requires returns-3)
+    tie.close (tie.spec cast-if1 returns own-fine-requires returns-2 is-kind-requires returns-3)

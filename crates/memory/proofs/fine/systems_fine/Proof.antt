@@ -5,6 +5,7 @@ use borrow.Author.Needs.{needs}
 use borrow.Author.Tests.{not-true, not-false}
 use lib.ListN.{length, take, drop, length-take}
 use lib.Seq.{getD-take}
+use Rattle.model.specs.Limits.{maxSystems}
 use Rattle.model.specs.Lists.{all}
 use Rattle.model.specs.Stored.{systemsOf}
 use Rattle.memory.specs.Codes.{codesOf}
@@ -20,7 +21,7 @@ Inv-loop codes m count i₀ i = (i ≤ count) × (codesOf (systemsOf m) ≡ code
 abbrev μ-loop : tie.MeasureT-loop
 μ-loop codes m count i₀ i = count - i
 
-long : (c : tie.Start Inv-loop μ-loop) → length (c .args .t1 .systems) ≡ 16
+long : (c : tie.Start Inv-loop μ-loop) → length (c .args .t1 .systems) ≡ maxSystems
 long c = search (length-mapped, needs)
 
 stored : (c : tie.At-loop Inv-loop μ-loop) → length (take (c .before .before .before .args .t1 .count) (c .before .before .before .args .t1 .systems)) ≡ c .before .held .result

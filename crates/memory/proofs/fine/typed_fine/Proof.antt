@@ -3,6 +3,7 @@ use native.Mathlib.Omega.{arith}
 use borrow.Author.Needs.{needs}
 use borrow.Author.Tests.{not-true, not-false}
 use lib.ListN.{length, take, length-take}
+use Rattle.model.specs.Limits.{maxSystems}
 use Rattle.model.specs.Stored.{systemsOf}
 use Rattle.memory.specs.Codes.{codesOf}
 use Rattle.memory.proofs.fine.typed_fine.Statement.{statement}
@@ -22,7 +23,7 @@ array-share-prefix-all : tie.Need-array-share-prefix-all
 array-share-prefix-all c = search needs
 
 slice-aggregate-codes : tie.Need-slice-aggregate-codes
-slice-aggregate-codes c = let h : length (c .before .kind-codes .result) ≡ 16 = search needs in simp length-take (omega (arith, c .before .before .held .ensures))
+slice-aggregate-codes c = let h : length (c .before .kind-codes .result) ≡ maxSystems = search needs in simp length-take (omega (arith, c .before .before .held .ensures))
 
 systems-fine-requires : tie.Need-systems-fine-requires
 systems-fine-requires c κs = search needs

@@ -4,6 +4,7 @@ use native.Mathlib.Omega.{arith}
 use borrow.Author.Needs.{needs}
 use lib.ListN.{length, take, length-map, length-set}
 use lib.Seq.{take-all}
+use Rattle.model.specs.Limits.{maxSystems}
 use Rattle.model.specs.Stored.{systemsOf}
 use Rattle.memory.specs.Codes.{codesOf}
 use Rattle.memory.proofs.Codes.{codeOf}
@@ -13,12 +14,12 @@ use Rattle.memory.proofs.kinds.kind_codes.Statement.{statement}
 use Rattle.memory.proofs.kinds.kind_codes.Tie as tie
 
 abbrev Inv-loop : tie.InvT-loop
-Inv-loop m count codes₀ i₀ codes i = (i ≤ count) × (length codes ≡ 16) × (take i codes ≡ take i (codesOf (systemsOf m)))
+Inv-loop m count codes₀ i₀ codes i = (i ≤ count) × (length codes ≡ maxSystems) × (take i codes ≡ take i (codesOf (systemsOf m)))
 
 abbrev μ-loop : tie.MeasureT-loop
 μ-loop m count codes₀ i₀ codes i = count - i
 
-long : (c : tie.Start Inv-loop μ-loop) → length (c .args .t1 .systems) ≡ 16
+long : (c : tie.Start Inv-loop μ-loop) → length (c .args .t1 .systems) ≡ maxSystems
 long c = search (length-mapped, needs)
 
 held-requires : tie.Need-held-requires Inv-loop μ-loop
@@ -62,7 +63,7 @@ returns c =
     let s = l .before .before in
     let k = l .before .held .ensures in
     let n = length-systems (s .args .t1) _ (long s) k in
-    let i : min (s .args .t1 .count) 16 ≡ l .loop .i = omega arith in
+    let i : min (s .args .t1 .count) maxSystems ≡ l .loop .i = omega arith in
     let h : length (codesOf (systemsOf (s .args .t1))) ≤ l .loop .i = rw (length-map (systemsOf (s .args .t1)) codeOf) (omega arith) in
     rw i (l .loop .inv .2 ∙ take-all (l .loop .i) _ h)
 

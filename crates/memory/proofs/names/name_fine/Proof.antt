@@ -2,12 +2,13 @@ use mathlib.Core.Path.{_≡_, sym, _∙_}
 use borrow.Author.Needs.{needs}
 use borrow.Author.Tests.{not-true, not-false}
 use lib.ListN.{length, take}
+use Rattle.model.specs.Limits.{nameLimit}
 use Rattle.model.specs.Stored.{bytesOf}
 use Rattle.memory.proofs.Laws.{name-fits, name-count, name-bytes}
 use Rattle.memory.proofs.names.name_fine.Statement.{statement}
 use Rattle.memory.proofs.names.name_fine.Tie as tie
 
-long : (c : tie.Start) → length (c .args .n .bytes) ≡ 16
+long : (c : tie.Start) → length (c .args .n .bytes) ≡ nameLimit
 long c = search needs
 
 -- the slice has the name's bytes

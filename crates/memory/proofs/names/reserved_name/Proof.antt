@@ -1,11 +1,12 @@
 use mathlib.Core.Path.{_≡_, _∙_}
 use borrow.Author.Needs.{needs}
 use lib.ListN.{length}
+use Rattle.model.specs.Limits.{nameLimit}
 use Rattle.memory.proofs.Laws.{name-fits, name-count, name-bytes}
 use Rattle.memory.proofs.names.reserved_name.Statement.{statement}
 use Rattle.memory.proofs.names.reserved_name.Tie as tie
 
-long : (c : tie.Start) → length (c .args .n .bytes) ≡ 16
+long : (c : tie.Start) → length (c .args .n .bytes) ≡ nameLimit
 long c = search needs
 
 clipped-requires : tie.Need-clipped-requires

@@ -1,14 +1,15 @@
 use mathlib.Core.Path.{_≡_, _∙_}
 use borrow.Author.Needs.{needs}
 use lib.ListN.{length}
+use Rattle.model.specs.Limits.{nameLimit}
 use Rattle.memory.proofs.Laws.{name-fits, name-count, name-bytes}
 use Rattle.memory.proofs.names.same_name.Statement.{statement}
 use Rattle.memory.proofs.names.same_name.Tie as tie
 
-long-a : (c : tie.Start) → length (c .args .a .bytes) ≡ 16
+long-a : (c : tie.Start) → length (c .args .a .bytes) ≡ nameLimit
 long-a c = search needs
 
-long-b : (c : tie.Start) → length (c .args .b .bytes) ≡ 16
+long-b : (c : tie.Start) → length (c .args .b .bytes) ≡ nameLimit
 long-b c = search needs
 
 clipped-requires : tie.Need-clipped-requires

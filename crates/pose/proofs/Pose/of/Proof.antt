@@ -1,13 +1,13 @@
--- `pose::Pose::of` meets its contract, by what `named` gives.
+-- `pose::Pose::of` meets its contract, by what `of_turns` gives.
 use borrow.Author.Needs.{needs}
 use Rattle.pose.proofs.Pose.of.Statement.{statement}
 use Rattle.pose.proofs.Pose.of.Tie as tie
 
-named-requires : tie.Need-named-requires
-named-requires c κs = search needs
+of-turns-requires : tie.Need-of-turns-requires
+of-turns-requires c κs = search needs
 
 returns : tie.Need-returns
-returns c = cc
+returns c = λ i. record { at = c .before .args .offset; rot = c .of-turns .ensures i .rot }
 
 pub of-spec : {M : Type 1} → statement M
-of-spec = tie.close (tie.spec named-requires returns)
+of-spec = tie.close (tie.spec of-turns-requires returns)

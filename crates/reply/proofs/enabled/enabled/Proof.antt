@@ -41,16 +41,16 @@ whole : (c : tie.After-l) → listed (memoryOf (c .before .before .before .befor
 whole c =
     let s = c .before .before .before .before .before .before .before .before .before .before .before .before in
     rw (c .before .before .before .before .before .before .before .before .slot .ensures, c .before .before .before .before .before .before .slot2 .ensures, c .before .before .before .before .before .slot3 .ensures, c .before .before .before .before .slot4 .ensures, c .before .before .before .before .before .before .before .before .before .first-place .ensures, c .before .before .before .before .before .before .before .tool-place .ensures)
-    (enabled-whole (s .args .t1) (s .pre) (long s))
+    (enabled-whole (s .args .t1) (s .pre .0) (long s))
 
 fits : (c : tie.After-l) → length (first c) + (length (tool c) + length (groups c)) ≤ length (c .before .before .before .before .before .before .before .before .before .before .before .before .args .reply .now)
 fits c =
     let s = c .before .before .before .before .before .before .before .before .before .before .before .before in
-    omega (arith, s .pre .room, listed-short (memoryOf (s .args .t1)) (s .pre .fine) enabledOnes, ap length (whole c), length-append (first c) (tool c ++ groups c), length-append (tool c) (groups c))
+    omega (arith, s .pre .1, listed-short (memoryOf (s .args .t1)) (s .pre .0 .formed) enabledOnes, ap length (whole c), length-append (first c) (tool c ++ groups c), length-append (tool c) (groups c))
 
 -- the name of a user system at a place that is not beyond the count
 named : (c : tie.After-l) (p i : ℕ) → p ≤ c .before .before .before .before .before .before .before .before .before .before .before .before .args .t1 .count → i ≡ p - 1 → 0 < p → at c i .name .len ≤ nameLimit
-named c p i h e n = let s = c .before .before .before .before .before .before .before .before .before .before .before .before in name-fits (s .args .t1) (s .pre .shaped) (long s) i (omega arith)
+named c p i h e n = let s = c .before .before .before .before .before .before .before .before .before .before .before .before in name-fits (s .args .t1) (s .pre .0 .shape) (long s) i (omega arith)
 
 -- ---- the needs
 
@@ -78,7 +78,7 @@ mul-a c = search needs
 element-copy-out-a : tie.Need-element-copy-out-a
 element-copy-out-a c =
     let s = c .before .before .before .before .before .before .before .before in
-    omega (arith, first-within (s .args .t1) (s .pre) (long s), few (s .args .t1) (s .pre .shaped) (long s), c .before .before .before .before .slot .ensures, c .before .before .before .before .before .first-place .ensures)
+    omega (arith, first-within (s .args .t1) (s .pre .0) (long s), few (s .args .t1) (s .pre .0 .shape) (long s), c .before .before .before .before .slot .ensures, c .before .before .before .before .before .first-place .ensures)
 
 mul-b : tie.Need-mul-b
 mul-b c = search needs
@@ -86,7 +86,7 @@ mul-b c = search needs
 element-copy-out-b : tie.Need-element-copy-out-b
 element-copy-out-b c =
     let s = c .before .before .before .before .before .before .before .before .before in
-    omega (arith, tool-within (s .args .t1) (s .pre) (long s), few (s .args .t1) (s .pre .shaped) (long s), c .before .before .before .slot2 .ensures, c .before .before .before .before .tool-place .ensures)
+    omega (arith, tool-within (s .args .t1) (s .pre .0) (long s), few (s .args .t1) (s .pre .0 .shape) (long s), c .before .before .before .slot2 .ensures, c .before .before .before .before .tool-place .ensures)
 
 mul-o : tie.Need-mul-o
 mul-o c = search needs
@@ -94,7 +94,7 @@ mul-o c = search needs
 element-copy-out-o : tie.Need-element-copy-out-o
 element-copy-out-o c =
     let s = c .before .before .before .before .before .before .before .before .before .before in
-    omega (arith, orientational-within (s .args .t1) (s .pre) (long s), few (s .args .t1) (s .pre .shaped) (long s), c .before .before .before .slot3 .ensures)
+    omega (arith, orientational-within (s .args .t1) (s .pre .0) (long s), few (s .args .t1) (s .pre .0 .shape) (long s), c .before .before .before .slot3 .ensures)
 
 mul-l : tie.Need-mul-l
 mul-l c = search needs
@@ -102,14 +102,14 @@ mul-l c = search needs
 element-copy-out-l : tie.Need-element-copy-out-l
 element-copy-out-l c =
     let s = c .before .before .before .before .before .before .before .before .before .before .before in
-    omega (arith, levelling-within (s .args .t1) (s .pre) (long s), few (s .args .t1) (s .pre .shaped) (long s), c .before .before .before .slot4 .ensures)
+    omega (arith, levelling-within (s .args .t1) (s .pre .0) (long s), few (s .args .t1) (s .pre .0 .shape) (long s), c .before .before .before .slot4 .ensures)
 
 put-enabled-requires : tie.Need-put-enabled-requires
 put-enabled-requires c κs =
     let k = c .before in
     let s = k .before .before .before .before .before .before .before .before .before .before .before .before in
     let p = k .before .before .before .before .before .before .before .before .before .first-place in (
-      named k (p .result) (k .before .before .before .before .before .before .before .before .slot .result) (rw (p .ensures) (first-within (s .args .t1) (s .pre) (long s))) (k .before .before .before .before .before .before .before .before .slot .ensures),
+      named k (p .result) (k .before .before .before .before .before .before .before .before .slot .result) (rw (p .ensures) (first-within (s .args .t1) (s .pre .0) (long s))) (k .before .before .before .before .before .before .before .before .slot .ensures),
       omega (arith, fits k),
     )
 
@@ -118,7 +118,7 @@ put-tool-requires c κs =
     let w = c .before .before .before in
     let k = w .before .before in
     let s = k .before .before .before .before .before .before .before .before .before .before .before .before in (
-      named k _ (k .before .before .before .before .before .before .slot2 .result) (tool-within (s .args .t1) (s .pre) (long s)) (k .before .before .before .before .before .before .slot2 .ensures ∙ rw (k .before .before .before .before .before .before .before .tool-place .ensures)),
+      named k _ (k .before .before .before .before .before .before .slot2 .result) (tool-within (s .args .t1) (s .pre .0) (long s)) (k .before .before .before .before .before .before .slot2 .ensures ∙ rw (k .before .before .before .before .before .before .before .tool-place .ensures)),
       omega (arith, fits k, w .put-enabled .ensures .place, w .put-enabled .kept .0),
     )
 
@@ -129,8 +129,8 @@ put-groups-requires c κs =
     let k = w .before .before in
     let s = k .before .before .before .before .before .before .before .before .before .before .before .before in (
       record {
-        orientational-fits = named k _ (k .before .before .before .before .before .slot3 .result) (orientational-within (s .args .t1) (s .pre) (long s)) (k .before .before .before .before .before .slot3 .ensures);
-        levelling-fits = named k _ (k .before .before .before .before .slot4 .result) (levelling-within (s .args .t1) (s .pre) (long s)) (k .before .before .before .before .slot4 .ensures);
+        orientational-fits = named k _ (k .before .before .before .before .before .slot3 .result) (orientational-within (s .args .t1) (s .pre .0) (long s)) (k .before .before .before .before .before .slot3 .ensures);
+        levelling-fits = named k _ (k .before .before .before .before .slot4 .result) (levelling-within (s .args .t1) (s .pre .0) (long s)) (k .before .before .before .before .slot4 .ensures);
       },
       omega (arith, fits k, w .put-enabled .ensures .place, w .put-enabled .kept .0, t .put-tool .ensures .place, t .put-tool .kept .0),
     )
@@ -148,7 +148,7 @@ returns c =
     let w = t .before .before .before .before in
     let k = w .before .before in
     let s = k .before .before .before .before .before .before .before .before .before .before .before .before in
-    replied (omega (arith, s .pre .room, listed-short (memoryOf (s .args .t1)) (s .pre .fine) enabledOnes))
+    replied (omega (arith, s .pre .1, listed-short (memoryOf (s .args .t1)) (s .pre .0 .formed) enabledOnes))
     (rw (whole k) (wrote-then (w .put-enabled .ensures) (wrote-then (t .put-tool .ensures) (g .put-groups .ensures))))
 
 pub enabled-spec : {M : Type 1} → statement M

@@ -1,21 +1,23 @@
 use Prim.Native.Nat.{ℕ, suc, _+_, _≤_, _<_}
-use mathlib.Core.Path.{_≡_, sym, ap, _∙_}
+use mathlib.Core.Path.{_≡_, refl, sym, ap, _∙_}
 use mathlib.Core.List.{List, []}
 use native.Mathlib.Omega.{arith}
 use lib.ListN.{length, getD, length-append}
-use lib.Seq.{length-take-le}
 use Rattle.model.specs.Memory.{fixedRef, userRef}
 use Rattle.model.specs.Reply.{listing, resultantLine}
 use Rattle.model.specs.Stored.{bytesOf, systemsOf, memoryOf}
 use Rattle.model.proofs.Memories.Fine.{fine-of}
 use Rattle.chains.specs.Walk.{walkOf}
 use Rattle.chains.proofs.Copies.{length-mapped, unset}
+use Rattle.chains.proofs.Reaching.{walked-fixed}
+use Rattle.chains.proofs.Ready.{walkable}
 use Rattle.print.proofs.Laws.{wrote-then}
 use Rattle.reply.specs.Reached.{reachedText, refAt}
+use Rattle.reply.proofs.KeptLaws.{held, taken}
 use Rattle.reply.proofs.ListLaws.{replied}
-use Rattle.reply.proofs.ReachLaws.{ref-fixed, ref-user, FlatOf, flat-of, can-walk, deep-enough, reached-within, reached-line}
+use Rattle.reply.proofs.ReachLaws.{ref-place, ref-fixed, ref-user, FlatOf, flat-of, can-walk, deep-enough, reached-within, reached-line}
 use Rattle.reply.proofs.ShortLaws.{resultant-short}
-use Rattle.reply.proofs.StoredLaws.{few, name-fits}
+use Rattle.reply.proofs.StoredLaws.{few, count-is, name-fits}
 use borrow.Author.Needs.{needs}
 use Rattle.reply.proofs.resultants.resultant_at.Statement.{statement}
 use Rattle.reply.proofs.resultants.resultant_at.Tie as tie
@@ -28,7 +30,12 @@ text s = resultantLine (systemsOf (s .args .t1)) (refAt (systemsOf (s .args .t1)
 
 -- the line and its end fit
 fits : (s : tie.Start) → length (text s) + 1 ≤ length (s .args .reply .now)
-fits s = omega (arith, s .pre .0 .room, resultant-short (systemsOf (s .args .t1)) (fine-of (memoryOf (s .args .t1)) (s .pre .0 .fine) .systems) (refAt (systemsOf (s .args .t1)) (s .args .g) (s .args .place)))
+fits s =
+    let m = s .args .t1 in
+    let l = systemsOf m in
+    let r = refAt l (s .args .g) (s .args .place) in
+    let within : r .place ≤ length l = rw (ref-place l (s .args .g) (s .args .place), count-is m (s .pre .0 .shape) (long s)) (s .pre .1 .1) in
+    omega (arith, s .pre .1 .0, resultant-short l (fine-of (memoryOf m) (s .pre .0 .formed) .systems) (walkable (memoryOf m) (s .pre .0 .formed)) r within)
 
 -- ---- a fixed system
 
@@ -53,7 +60,7 @@ returns c =
 
 -- ---- a user system
 
-flat : (c : tie.After-turns) → FlatOf (c .before .before .before .before .before .before .before .args .t1) (c .before .before .before .before .before .before .before .args .reply .now) (c .before .before .before .before .links-of .result .preds) (c .before .before .before .frames-of .result .offsets) (c .before .before .before .frames-of .result .turns)
+flat : (c : tie.After-turns) → FlatOf (c .before .before .before .before .before .before .before .args .t1) (c .before .before .before .before .links-of .result .preds) (c .before .before .before .frames-of .result .offsets) (c .before .before .before .frames-of .result .turns)
 flat c =
     let s = c .before .before .before .before .before .before .before in
     flat-of (s .args .t1) (s .pre .0) (long s) (c .before .before .before .before .links-of .ensures) (search needs) (c .before .before .before .frames-of .ensures) (search needs) (search needs)
@@ -63,16 +70,25 @@ slot-is : (c : tie.After-slot) → (c .before .before .before .before .before .b
 slot-is c =
     let s = c .before .before .before .before .before .before .before .before in
     let n = c .before .before .before .before .before .before .if1 .left in
-    let f = few (s .args .t1) (s .pre .0 .shaped) (long s) in
-    (omega (arith, n, c .slot .ensures), omega (arith, n, c .slot .ensures, s .pre .1), omega (arith, n, c .slot .ensures, s .pre .1, f))
+    let f = few (s .args .t1) (s .pre .0 .shape) (long s) in
+    (omega (arith, n, c .slot .ensures), omega (arith, n, c .slot .ensures, s .pre .1 .1), omega (arith, n, c .slot .ensures, s .pre .1 .1, f))
 
-user : (c : tie.After-group-of) → text (c .before .before .before .before .before .before .before .before .before .before .before .before .before .before .before) ≡ reachedText (bytesOf (getD (c .before .before .before .before .before .before .before .before .before .before .before .before .before .before .before .args .t1 .systems) (c .before .before .before .before .before .before .before .slot .result) unset .name)) (c .group-of .result) (walkOf (c .before .before .reach .result))
+-- ---- seen from the walk
+
+abbrev start : tie.After-reach → tie.Start
+start c = c .before .before .before .before .before .before .before .before .before .before .before .before .before .before
+
+abbrev slotted : tie.After-reach → tie.After-slot
+slotted c = c .before .before .before .before .before .before
+
+user : (c : tie.After-group-of) → let r = c .before .before in text (start r) ≡ reachedText (bytesOf (getD (start r .args .t1 .systems) (slotted r .slot .result) unset .name)) (c .group-of .result) (walkOf (r .reach .result))
 user c =
-    let s = c .before .before .before .before .before .before .before .before .before .before .before .before .before .before .before in
-    let k = c .before .before .before .before .before .before .before in
+    let r = c .before .before in
+    let s = start r in
+    let k = slotted r in
     let l = systemsOf (s .args .t1) in
-    ap (resultantLine l) (ref-user l (s .args .g) (s .args .place) (c .before .before .before .before .before .before .before .before .before .before .before .before .before .if1 .left) ∙ ap (λ (i : ℕ). userRef l (suc i)) (sym (k .slot .ensures)))
-    ∙ rw (c .group-of .ensures) (reached-line (flat (c .before .before .before .before .before .before .before .before)) (slot-is k .0) (slot-is k .1) (c .before .before .reach .ensures .0))
+    ap (resultantLine l) (ref-user l (s .args .g) (s .args .place) (k .before .before .before .before .before .before .if1 .left) ∙ ap (λ (i : ℕ). userRef l (suc i)) (sym (k .slot .ensures)))
+    ∙ rw (c .group-of .ensures) (reached-line (flat (k .before)) (slot-is k .0) (slot-is k .1) (r .reach .ensures .0))
 
 links-of-requires : tie.Need-links-of-requires
 links-of-requires c κs = search needs
@@ -92,6 +108,9 @@ mul-s c = search needs
 element-copy-out-s : tie.Need-element-copy-out-s
 element-copy-out-s c = slot-is c .2
 
+unmoved-requires : tie.Need-unmoved-requires
+unmoved-requires c κs = search needs
+
 slice-aggregate-reach : tie.Need-slice-aggregate-reach
 slice-aggregate-reach c = search needs
 
@@ -99,30 +118,33 @@ slice-aggregate-reach-2 : tie.Need-slice-aggregate-reach-2
 slice-aggregate-reach-2 c = search needs
 
 array-share-prefix-preds : tie.Need-array-share-prefix-preds
-array-share-prefix-preds c = let s = c .before .before .before .before .before .before .before .before .before .before .before in omega (arith, flat (c .before .before .before .before) .many, few (s .args .t1) (s .pre .0 .shaped) (long s))
+array-share-prefix-preds c = let f = flat (c .before .before .before .before .before) in omega (arith, f .many, held f)
 
 slice-aggregate-reach-3 : tie.Need-slice-aggregate-reach-3
-slice-aggregate-reach-3 c =
-    let s = c .before .before .before .before .before .before .before .before .before .before .before .before in
-    sym (length-take-le (s .args .t1 .count) (c .before .before .before .before .before .before .before .before .before .links-of .result .preds) (omega (arith, flat (c .before .before .before .before .before) .many, few (s .args .t1) (s .pre .0 .shaped) (long s))))
+slice-aggregate-reach-3 c = taken (flat (c .before .before .before .before .before .before))
 
 reach-requires : tie.Need-reach-requires
-reach-requires c κs = let f = flat (c .before .before .before .before .before) in (can-walk f, deep-enough f _ (c .before .before .before .before .before .before .before .before .before .before .before .before .pre .1))
+reach-requires c κs =
+    let f = flat (c .before .before .before .before .before .before) in
+    (can-walk f, (c .before .before .before .unmoved .ensures ∙ walked-fixed _ 0 refl, deep-enough f _ (c .before .before .before .before .before .before .before .before .before .before .before .before .before .pre .1 .1)))
 
 group-of-requires : tie.Need-group-of-requires
 group-of-requires c κs = search needs
 
 put-reached-requires : tie.Need-put-reached-requires
 put-reached-requires c κs =
-    let s = c .before .before .before .before .before .before .before .before .before .before .before .before .before .before .before in
-    let k = slot-is (c .before .before .before .before .before .before .before) in (
-      name-fits (s .args .t1) (s .pre .0 .shaped) (long s) (c .before .before .before .before .before .before .before .slot .result) (k .1),
-      reached-within (flat (c .before .before .before .before .before .before .before .before)) (k .0) (k .1) (c .before .before .reach .ensures .0),
+    let r = c .before .before in
+    let s = start r in
+    let k = slot-is (slotted r) in (
+      name-fits (s .args .t1) (s .pre .0 .shape) (long s) (slotted r .slot .result) (k .1),
+      reached-within (flat (slotted r .before)) (k .0) (k .1) (r .reach .ensures .0),
       omega (arith, fits s, ap length (user c)),
     )
 
 put-byte-requires-2 : tie.Need-put-byte-requires-2
-put-byte-requires-2 c κs = let k = c .before .before .before in omega (arith, fits (c .before .before .before .before .before .before .before .before .before .before .before .before .before .before .before .before .before .before .before), ap length (user (k .before)), k .put-reached .ensures .place, k .put-reached .kept .0)
+put-byte-requires-2 c κs =
+    let k = c .before .before .before in
+    omega (arith, fits (start (k .before .before .before)), ap length (user (k .before)), k .put-reached .ensures .place, k .put-reached .kept .0)
 
 same-length-2 : tie.Need-same-length-2
 same-length-2 c = search needs
@@ -132,7 +154,7 @@ unfolding listing
 returns-2 c =
     let e = c .before .before in
     let k = e .before .before .before .before in
-    replied (rw length-append (fits (c .before .before .before .before .before .before .before .before .before .before .before .before .before .before .before .before .before .before .before .before .before .before))) (rw (user (k .before)) (wrote-then (k .put-reached .ensures) (e .put-byte2 .ensures)))
+    replied (rw length-append (fits (start (k .before .before .before)))) (rw (user (k .before)) (wrote-then (k .put-reached .ensures) (e .put-byte2 .ensures)))
 
 pub resultant-at-spec : {M : Type 1} → statement M
 resultant-at-spec =
@@ -148,6 +170,7 @@ resultant-at-spec =
     slot-requires
     mul-s
     element-copy-out-s
+    unmoved-requires
     slice-aggregate-reach
     slice-aggregate-reach-2
     array-share-prefix-preds

@@ -12,10 +12,10 @@ use Rattle.chains.proofs.Copies.{length-mapped, unset}
 use Rattle.print.specs.Over.{Wrote}
 use Rattle.reply.specs.Lines.{further}
 use Rattle.reply.specs.Reached.{reachedText}
-use Rattle.reply.proofs.KeptLaws.{Kept, kept-start, kept-on, held, taken, pred-kept, known-pred}
+use Rattle.reply.proofs.KeptLaws.{Kept, kept-start, kept-on, held, taken, pred-kept}
 use Rattle.reply.proofs.ListLaws.{Going, plan-room, plan-start, plan-end, going-on, going-room, going-within, going-turn}
 use Rattle.reply.proofs.PlanLaws.{lineAt, resultants-plan}
-use Rattle.reply.proofs.ReachLaws.{FlatOf, flat-of, can-walk, reached-within, reached-line}
+use Rattle.reply.proofs.ReachLaws.{FlatOf, flat-of, can-walk, deep-enough, reached-within, reached-line}
 use Rattle.reply.proofs.StoredLaws.{name-fits}
 use Rattle.reply.proofs.resultants.resultants.Statement.{statement}
 use Rattle.reply.proofs.resultants.resultants.Tie as tie
@@ -32,17 +32,17 @@ long : (s : tie.Start Inv-loop μ-loop) → length (s .args .t1 .systems) ≡ 16
 long s = search (length-mapped, needs)
 
 -- the memory's numbers are laid flat
-laid : (c : tie.After-turns Inv-loop μ-loop) → FlatOf (c .before .before .before .before .before .before .args .t1) (c .before .before .before .before .before .before .args .reply .now) (c .before .before .before .before .links-of .result .preds) (c .before .before .before .frames-of .result .offsets) (c .before .before .before .frames-of .result .turns)
+laid : (c : tie.After-turns Inv-loop μ-loop) → FlatOf (c .before .before .before .before .before .before .args .t1) (c .before .before .before .before .links-of .result .preds) (c .before .before .before .frames-of .result .offsets) (c .before .before .before .frames-of .result .turns)
 laid c =
     let s = c .before .before .before .before .before .before in
-    flat-of (s .args .t1) (s .pre) (long s) (c .before .before .before .before .links-of .ensures) (search needs) (c .before .before .before .frames-of .ensures) (search needs) (search needs)
+    flat-of (s .args .t1) (s .pre .0) (long s) (c .before .before .before .before .links-of .ensures) (search needs) (c .before .before .before .frames-of .ensures) (search needs) (search needs)
 
 -- ---- seen from a turn of the loop
 
 abbrev start : tie.In-loop Inv-loop μ-loop → tie.Start Inv-loop μ-loop
 start c = c .before .before .before .before .before .before .before .before .before .before .before .before .before
 
-flat : (c : tie.In-loop Inv-loop μ-loop) → FlatOf (start c .args .t1) (start c .args .reply .now) (c .before .before .before .before .before .before .before .before .before .before .before .links-of .result .preds) (c .before .before .before .before .before .before .before .before .before .before .frames-of .result .offsets) (c .before .before .before .before .before .before .before .before .before .before .frames-of .result .turns)
+flat : (c : tie.In-loop Inv-loop μ-loop) → FlatOf (start c .args .t1) (c .before .before .before .before .before .before .before .before .before .before .before .links-of .result .preds) (c .before .before .before .before .before .before .before .before .before .before .frames-of .result .offsets) (c .before .before .before .before .before .before .before .before .before .before .frames-of .result .turns)
 flat c = laid (c .before .before .before .before .before .before .before)
 
 -- an index below the count is one of the array
@@ -62,12 +62,12 @@ unmoved-requires : tie.Need-unmoved-requires Inv-loop μ-loop
 unmoved-requires c κs = search needs
 
 put-fixed-resultants-requires : tie.Need-put-fixed-resultants-requires Inv-loop μ-loop
-put-fixed-resultants-requires c κs = let s = c .before .before .before .before .before .before .before .before in omega (arith, plan-room (resultants-plan (s .args .t1) (s .pre) (long s)))
+put-fixed-resultants-requires c κs = let s = c .before .before .before .before .before .before .before .before in omega (arith, plan-room (resultants-plan (s .args .t1) (s .pre .0) (s .args .reply .now) (s .pre .1) (long s)))
 
 loop-holds : tie.Need-loop-holds Inv-loop μ-loop
 loop-holds c =
     let s = c .before .before .before .before .before .before .before .before .before .before .before in
-    (plan-start (resultants-plan (s .args .t1) (s .pre) (long s)) (c .before .before .put-fixed-resultants .ensures), kept-start _ _ _ refl (c .before .before .before .before .unmoved .ensures))
+    (plan-start (resultants-plan (s .args .t1) (s .pre .0) (s .args .reply .now) (s .pre .1) (long s)) (c .before .before .put-fixed-resultants .ensures), kept-start _ _ _ refl (c .before .before .before .before .unmoved .ensures))
 
 mul-s : tie.Need-mul-s Inv-loop μ-loop
 mul-s c = omega (arith, within c)
@@ -75,54 +75,62 @@ mul-s c = omega (arith, within c)
 element-copy-out-s : tie.Need-element-copy-out-s Inv-loop μ-loop
 element-copy-out-s c = within c
 
-array-read-pred : tie.Need-array-read-pred Inv-loop μ-loop
-array-read-pred c = within (c .before)
+array-read-reached-before : tie.Need-array-read-reached-before Inv-loop μ-loop
+array-read-reached-before c = within (c .before)
 
--- the predecessor's place is one of those kept
-pred-within : (c : tie.In-loop Inv-loop μ-loop) → getD (c .before .before .before .before .before .before .before .before .before .before .before .links-of .result .preds) (c .before .loop .i) 0 < 17
-pred-within c = pred-kept (flat c) (c .loop-test .taken)
+cast-reached-before : tie.Need-cast-reached-before Inv-loop μ-loop
+cast-reached-before c = let l = c .before in omega (arith, pred-kept (flat l) (l .loop-test .taken))
 
-cast-pred : tie.Need-cast-pred Inv-loop μ-loop
-cast-pred c = omega (arith, pred-within (c .before))
+reached-before-requires : tie.Need-reached-before-requires Inv-loop μ-loop
+reached-before-requires c κs = search needs
 
 mul-before : tie.Need-mul-before Inv-loop μ-loop
-mul-before c = omega (arith, pred-within (c .before))
+mul-before c = omega (arith, c .reached-before .ensures, within (c .before .before))
 
+-- a place that comes first is one of those kept
 array-copy-out-before : tie.Need-array-copy-out-before Inv-loop μ-loop
-array-copy-out-before c = pred-within (c .before)
+array-copy-out-before c = omega (arith, c .reached-before .ensures, within (c .before .before))
 
-slice-aggregate-reach-from : tie.Need-slice-aggregate-reach-from Inv-loop μ-loop
-slice-aggregate-reach-from c = search needs
+slice-aggregate-reach : tie.Need-slice-aggregate-reach Inv-loop μ-loop
+slice-aggregate-reach c = search needs
 
-slice-aggregate-reach-from-2 : tie.Need-slice-aggregate-reach-from-2 Inv-loop μ-loop
-slice-aggregate-reach-from-2 c = search needs
+slice-aggregate-reach-2 : tie.Need-slice-aggregate-reach-2 Inv-loop μ-loop
+slice-aggregate-reach-2 c = search needs
 
 array-share-prefix-preds : tie.Need-array-share-prefix-preds Inv-loop μ-loop
-array-share-prefix-preds c = let f = flat (c .before .before .before .before) in omega (arith, f .many, held f)
+array-share-prefix-preds c = let f = flat (c .before .before .before .before .before) in omega (arith, f .many, held f)
 
-slice-aggregate-reach-from-3 : tie.Need-slice-aggregate-reach-from-3 Inv-loop μ-loop
-slice-aggregate-reach-from-3 c = taken (flat (c .before .before .before .before .before))
+slice-aggregate-reach-3 : tie.Need-slice-aggregate-reach-3 Inv-loop μ-loop
+slice-aggregate-reach-3 c = taken (flat (c .before .before .before .before .before .before))
 
-reach-from-requires : tie.Need-reach-from-requires Inv-loop μ-loop
-reach-from-requires c κs =
-    let l = c .before .before .before .before .before in
+add-reach : tie.Need-add-reach Inv-loop μ-loop
+add-reach c = record { fits = omega (arith, within (c .before .before .before .before .before .before)) }
+
+reach-requires : tie.Need-reach-requires Inv-loop μ-loop
+reach-requires c κs =
+    let l = c .before .before .before .before .before .before in
     let f = flat l in
-    (can-walk f, (omega (arith, taken f, l .loop-test .taken), known-pred f (l .loop-test .taken) (l .before .loop .inv .1)))
+    let i = l .before .loop in
+    (can-walk f, (i .inv .1 .each _ (c .before .before .before .before .reached-before .ensures), deep-enough f _ (omega (arith, l .loop-test .taken))))
+
+-- the turn of the loop, seen from its walk
+abbrev turn : tie.After-reach Inv-loop μ-loop → tie.In-loop Inv-loop μ-loop
+turn c = c .before .before .before .before .before .before .before
 
 add-known : tie.Need-add-known Inv-loop μ-loop
-add-known c = record { fits = omega (arith, within (c .before .before .before .before .before .before)) }
+add-known c = record { fits = omega (arith, within (turn c)) }
 
 mul-known : tie.Need-mul-known Inv-loop μ-loop
-mul-known c = record { fits = omega (arith, within (c .before .before .before .before .before .before)) }
+mul-known c = record { fits = omega (arith, within (turn c)) }
 
 array-set-from-known : tie.Need-array-set-from-known Inv-loop μ-loop
-array-set-from-known c = omega (arith, within (c .before .before .before .before .before .before))
+array-set-from-known c = omega (arith, within (turn c))
 
 sub-put-further-reached : tie.Need-sub-put-further-reached Inv-loop μ-loop
-sub-put-further-reached c = omega (arith, going-within (c .before .before .before .before .before .before .before .loop .inv .0))
+sub-put-further-reached c = omega (arith, going-within (turn c .before .loop .inv .0))
 
 part-put-further-reached-start : tie.Need-part-put-further-reached-start Inv-loop μ-loop
-part-put-further-reached-start c = omega (arith, going-within (c .before .before .before .before .before .before .before .loop .inv .0))
+part-put-further-reached-start c = omega (arith, going-within (turn c .before .loop .inv .0))
 
 part-put-further-reached-end : tie.Need-part-put-further-reached-end Inv-loop μ-loop
 part-put-further-reached-end c = omega arith
@@ -131,45 +139,46 @@ group-of-requires : tie.Need-group-of-requires Inv-loop μ-loop
 group-of-requires c κs = search needs
 
 -- what is reached is what the line of the next place shows
-line-is : (c : tie.After-group-of Inv-loop μ-loop) → let l = c .before .before .before .before .before .before .before .before in let m = start l .args .t1 in
-    lineAt resultantLine m (suc (l .before .loop .i)) ≡ reachedText (bytesOf (getD (m .systems) (l .before .loop .i) unset .name)) (c .group-of .result) (walkOf (c .before .before .reach-from .result))
+line-is : (c : tie.After-group-of Inv-loop μ-loop) → let l = turn (c .before .before) in let m = start l .args .t1 in
+    lineAt resultantLine m (suc (l .before .loop .i)) ≡ reachedText (bytesOf (getD (m .systems) (l .before .loop .i) unset .name)) (c .group-of .result) (walkOf (c .before .before .reach .result))
 line-is c =
-    let l = c .before .before .before .before .before .before .before .before in
-    rw (c .group-of .ensures) (reached-line (flat l) (add-one (l .before .loop .i)) (l .loop-test .taken) (c .before .before .reach-from .ensures))
+    let l = turn (c .before .before) in
+    rw (c .group-of .ensures) (reached-line (flat l) (add-one (l .before .loop .i)) (l .loop-test .taken) (c .before .before .reach .ensures .0))
 
 put-further-reached-requires : tie.Need-put-further-reached-requires Inv-loop μ-loop
 put-further-reached-requires c κs =
-    let l = c .before .before .before .before .before .before .before .before in
+    let l = turn (c .before .before) in
     let s = start l in
     let h = l .loop-test .taken in (
-      name-fits (s .args .t1) (s .pre .shaped) (long s) (l .before .loop .i) h,
-      reached-within (flat l) (add-one (l .before .loop .i)) h (c .before .before .reach-from .ensures),
+      name-fits (s .args .t1) (s .pre .0 .shape) (long s) (l .before .loop .i) h,
+      reached-within (flat l) (add-one (l .before .loop .i)) h (c .before .before .reach .ensures .0),
       rw (line-is c) at (going-room (l .before .loop .inv .0) h),
     )
 
 -- what is written is that line
-wrote : (c : tie.After-put-further-reached Inv-loop μ-loop) → let l = c .before .before .before .before .before .before .before .before .before .before .loop in
-    Wrote (further (lineAt resultantLine (start (c .before .before .before .before .before .before .before .before .before) .args .t1) (suc (l .i)))) (take (length (l .reply) - l .at) (drop (l .at) (l .reply))) 0 (c .put-further-reached .last .0) (c .put-further-reached .result)
+wrote : (c : tie.After-put-further-reached Inv-loop μ-loop) → let l = turn (c .before .before .before) in
+    Wrote (further (lineAt resultantLine (start l .args .t1) (suc (l .before .loop .i)))) (take (length (l .before .loop .reply) - l .before .loop .at) (drop (l .before .loop .at) (l .before .loop .reply))) 0 (c .put-further-reached .last .0) (c .put-further-reached .result)
 wrote c = rw (line-is (c .before)) (c .put-further-reached .ensures)
 
 add-at : tie.Need-add-at Inv-loop μ-loop
 add-at c =
-    let l = c .before .before .before .before .before .before .before .before .before .before .before in
+    let l = turn (c .before .before .before .before .before) in
     let k = l .before in
     let n = going-on (k .loop .inv .0) (l .loop-test .taken) (wrote (c .before .before) .place) in
     record { fits = omega (arith, n, k .loop .inv .0 .long, k .before .before .before .put-fixed-resultants .kept .0, start l .good .1 .0 .0) }
 
 add-i : tie.Need-add-i Inv-loop μ-loop
-add-i c = record { fits = omega (arith, within (c .before .before .before .before .before .before .before .before .before .before .before)) }
+add-i c = record { fits = omega (arith, within (turn (c .before .before .before .before .before))) }
 
 loop-less : tie.Need-loop-less Inv-loop μ-loop
-loop-less c = omega (arith, c .before .before .before .before .before .before .before .before .before .before .before .loop-test .taken)
+loop-less c = omega (arith, turn (c .before .before .before .before .before) .loop-test .taken)
 
 loop-again : tie.Need-loop-again Inv-loop μ-loop
 loop-again c =
-    let l = c .before .before .before .before .before .before .before .before .before .before .before in
+    let r = c .before .before .before .before .before in
+    let l = turn r in
     let k = l .before .loop .inv in
-    (going-turn (k .0) (l .loop-test .taken) (wrote (c .before .before)), kept-on (k .1) (within l) (c .before .before .before .before .before .reach-from .ensures))
+    (going-turn (k .0) (l .loop-test .taken) (wrote (c .before .before)), kept-on (k .1) (within l) (r .reach .ensures .0))
 
 put-byte-requires : tie.Need-put-byte-requires Inv-loop μ-loop
 put-byte-requires c κs = going-within (c .before .before .loop .inv .0)
@@ -182,7 +191,7 @@ returns c =
     let e = c .before .before in
     let l = e .before .before .before in
     let s = c .before .before .before .before .before .before .before .before .before .before .before .before .before .before .before .before .before in
-    plan-end (resultants-plan (s .args .t1) (s .pre) (long s)) (l .before .before .before .put-fixed-resultants .ensures) (l .loop .inv .0) (e .before .before .loop-test .left) (e .put-byte .ensures)
+    plan-end (resultants-plan (s .args .t1) (s .pre .0) (s .args .reply .now) (s .pre .1) (long s)) (l .before .before .before .put-fixed-resultants .ensures) (l .loop .inv .0) (e .before .before .loop-test .left) (e .put-byte .ensures)
 
 pub resultants-spec : {M : Type 1} → statement M
 resultants-spec =
@@ -198,15 +207,17 @@ resultants-spec =
     loop-holds
     mul-s
     element-copy-out-s
-    array-read-pred
-    cast-pred
+    array-read-reached-before
+    cast-reached-before
+    reached-before-requires
     mul-before
     array-copy-out-before
-    slice-aggregate-reach-from
-    slice-aggregate-reach-from-2
+    slice-aggregate-reach
+    slice-aggregate-reach-2
     array-share-prefix-preds
-    slice-aggregate-reach-from-3
-    reach-from-requires
+    slice-aggregate-reach-3
+    add-reach
+    reach-requires
     add-known
     mul-known
     array-set-from-known

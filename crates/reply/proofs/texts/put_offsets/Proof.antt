@@ -1,4 +1,4 @@
-use mathlib.Core.Path.{_≡_}
+use mathlib.Core.Path.{_≡_, refl}
 use native.Mathlib.Omega.{arith}
 use mir.Syntax.{w64}
 use mir.Val.{toZ, ofZ}
@@ -22,21 +22,22 @@ z-back s = back (s .args .t .z) (omega (arith, s .pre .0 .z-within))
 
 put-offset-requires : tie.Need-put-offset-requires
 put-offset-requires c κs =
-    let s = c .before .before .before in
-    rw (x-back s) (s .pre .0 .x-within, omega (arith, s .pre .1, length-offsets (s .args .t)))
+    let s = c .before .before .before .before in
+    rw (x-back s) (refl, s .pre .0 .x-within, omega (arith, s .pre .1, length-offsets (s .args .t)))
 
 put-offset-requires-2 : tie.Need-put-offset-requires-2
 put-offset-requires-2 c κs =
-    let k = c .before .before .before .before in
-    let s = k .before .before .before .before in
-    rw (y-back s) (s .pre .0 .y-within, omega (arith, s .pre .1, length-offsets (s .args .t), rw (x-back s) at (k .put-offset .ensures .place), k .put-offset .kept .0))
+    let k = c .before .before .before .before .before in
+    let s = k .before .before .before .before .before in
+    rw (y-back s) (refl, s .pre .0 .y-within, omega (arith, s .pre .1, length-offsets (s .args .t), rw (x-back s) at (k .put-offset .ensures .place), k .put-offset .kept .0))
 
 put-offset-requires-3 : tie.Need-put-offset-requires-3
 put-offset-requires-3 c κs =
-    let j = c .before .before .before .before in
-    let k = j .before .before .before .before .before in
-    let s = k .before .before .before .before in
+    let j = c .before .before .before .before .before in
+    let k = j .before .before .before .before .before .before in
+    let s = k .before .before .before .before .before in
     rw (z-back s) (
+      refl,
       s .pre .0 .z-within,
       omega (arith, s .pre .1, length-offsets (s .args .t), rw (x-back s) at (k .put-offset .ensures .place), k .put-offset .kept .0, rw (y-back s) at (j .put-offset2 .ensures .place), j .put-offset2 .kept .0),
     )
@@ -48,9 +49,9 @@ returns : tie.Need-returns
 unfolding offsetsText
 returns c =
     let i = c .before .before in
-    let j = i .before .before .before .before .before in
-    let k = j .before .before .before .before .before in
-    let s = k .before .before .before .before in
+    let j = i .before .before .before .before .before .before in
+    let k = j .before .before .before .before .before .before in
+    let s = k .before .before .before .before .before in
     wrote-then (rw (x-back s) at (k .put-offset .ensures))
     (wrote-then (rw (y-back s) at (j .put-offset2 .ensures)) (rw (z-back s) at (i .put-offset3 .ensures)))
 

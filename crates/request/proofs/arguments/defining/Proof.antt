@@ -5,17 +5,18 @@ use mathlib.Core.Bool.{true}
 use native.Mathlib.Omega.{arith}
 use borrow.Author.Needs.{needs}
 use borrow.Author.Tests.{not-true, not-false}
-use Rattle.model.specs.Request.{malformed, asksChange, define, definition}
+use Rattle.model.specs.Request.{malformed, definition}
 use Rattle.model.specs.Words.{legalName}
 use Rattle.text.specs.Cursor.{wordOf, wordsFrom, Within}
-use Rattle.text.specs.Pairs.{readingOf}
+use Rattle.text.specs.Pairs.{pairsTold}
+use Rattle.text.specs.Readings.{readingTold}
 use Rattle.text.proofs.NameLaws.{name-ok, name-bytes, name-short}
-use Rattle.text.proofs.PairLaws.{definition-read, definition-unnamed}
+use Rattle.text.proofs.PairLaws.{defining, definition-read, definition-unnamed}
 use Rattle.text.proofs.WordLaws.{word-within}
-use Rattle.request.specs.declared.Asked.the-variants.{Malformed, Beyond}
+use Rattle.request.specs.declared.Asked.the-variants.{Malformed}
 use Rattle.request.proofs.Laws.{define-none}
 use Rattle.request.proofs.Says.{says-plain}
-use Rattle.request.proofs.Words.{at-word, either-way, legal-long}
+use Rattle.request.proofs.Words.{at-word, either-way, legal-some}
 use Rattle.request.proofs.arguments.defining.Statement.{statement}
 use Rattle.request.proofs.arguments.defining.Tie as tie
 
@@ -57,44 +58,55 @@ good e = sym (name-ok _ _ (e .before .before .read-name .ensures)) ∙ not-false
 by-pairs : (d : tie.After-read-pairs) →
     let n = d .before .before .before .before in
     let k = n .before .before .args .kind in
-    definition k (wordsFrom (Line n) (n .before .before .args .at)) ≡ readingOf k (W n) (d .read-pairs .result)
+    definition k (wordsFrom (Line n) (n .before .before .args .at)) ≡ readingTold (defining k (W n)) (pairsTold (d .read-pairs .result))
 by-pairs d =
     let e = d .before in
     let n = e .before .before .before in
     let k = n .before .before .args .kind in
-    ap (definition k) (at-word (Line n) _ _ (n .next-word .ensures) (legal-long (W n) (good e))) ∙ definition-read k (W n) _ (good e) ∙
-    ap (readingOf k (W n)) (sym (d .read-pairs .ensures))
+    ap (definition k) (at-word (Line n) _ _ (n .next-word .ensures) (legal-some (W n) (good e))) ∙ definition-read k (W n) _ (good e) ∙
+    ap (readingTold (defining k (W n))) (sym (d .read-pairs .ensures))
+
+enum-told : tie.Need-enum-told
+enum-told c = search needs
 
 plain-requires-2 : tie.Need-plain-requires-2
 plain-requires-2 c κs = search needs
 
-returns-2 : tie.Need-returns-2
-returns-2 c = says-plain Malformed (c .plain2 .ensures) (sym (by-pairs (c .before .before) ∙ rw (c .before .if2 .taken)))
+enum-told-2 : tie.Need-enum-told-2
+enum-told-2 c = search needs
 
 plain-requires-3 : tie.Need-plain-requires-3
 plain-requires-3 c κs = search needs
 
-returns-3 : tie.Need-returns-3
-returns-3 c =
-    let e = c .before .before in
-    says-plain Beyond (c .plain3 .ensures) (sym (by-pairs (e .before) ∙ rw (e .if2 .left, c .before .if3 .taken)))
+enum-known-p : tie.Need-enum-known-p
+enum-known-p c = search needs
 
 no-name-requires : tie.Need-no-name-requires
 no-name-requires c κs = search needs
 
+returns-2 : tie.Need-returns-2
+returns-2 c =
+    let told = c .before in
+    let d = told .before .before .before in
+    says-plain _ (c .plain2 .ensures) (sym (by-pairs d ∙ rw (told .enum-told .given .1)))
+
+returns-3 : tie.Need-returns-3
+returns-3 c =
+    let told = c .before in
+    let d = told .before .before .before in
+    says-plain _ (c .plain3 .ensures) (sym (by-pairs d ∙ rw (told .enum-told2 .given .1)))
+
 returns-4 : tie.Need-returns-4
 returns-4 c =
-    let o = c .before .before in
-    let t = o .before .before in
-    let e = t .before in
-    let d = e .before in
-    let r = d .before .before .before in
+    let kept = c .before .before in
+    let d = kept .before .before .before in
+    let e = d .before in
+    let r = e .before .before in
     let k = r .before .before .before .args .kind in
-    let p = d .read-pairs .result in
     record {
-      says = ap (λ (n : List ℕ). asksChange (define k n (p .offset) (p .turns))) (name-bytes _ _ (r .read-name .ensures) (good (d .before))) ∙ sym (by-pairs d ∙ rw (e .if2 .left, t .if3 .left));
-      first-fits = name-short _ _ (r .read-name .ensures) (good (d .before));
-      second-fits = rw (o .no-name .ensures) (omega arith);
+      says = ap (λ (n : List ℕ). defining k n (kept .p .given .0 .0, kept .p .given .0 .1 .0)) (name-bytes _ _ (r .read-name .ensures) (good e)) ∙ sym (by-pairs d ∙ rw (kept .p .given .1));
+      first-fits = name-short _ _ (r .read-name .ensures) (good e);
+      second-fits = rw (c .no-name .ensures) (omega arith);
     }
 
 pub defining-spec : {M : Type 1} → statement M
@@ -106,9 +118,12 @@ defining-spec =
     plain-requires
     returns
     read-pairs-requires
+    enum-told
     plain-requires-2
-    returns-2
+    enum-told-2
     plain-requires-3
-    returns-3
+    enum-known-p
     no-name-requires
+    returns-2
+    returns-3
     returns-4)

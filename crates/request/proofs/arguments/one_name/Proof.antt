@@ -13,7 +13,7 @@ use Rattle.request.specs.declared.Asked.the-variants.{Malformed}
 use Rattle.request.specs.Asked.{named}
 use Rattle.request.proofs.Laws.{one-none, one-bad, one-more, one-good}
 use Rattle.request.proofs.Says.{says-plain, says-one}
-use Rattle.request.proofs.Words.{at-word, either-way, legal-long}
+use Rattle.request.proofs.Words.{at-word, either-way, legal-some}
 use Rattle.request.proofs.arguments.one_name.Statement.{statement}
 use Rattle.request.proofs.arguments.one_name.Tie as tie
 
@@ -58,7 +58,7 @@ good : (c : tie.Else1) → legalName (W (c .before .before .before)) ≡ true
 good c = sym (legal (c .before)) ∙ not-false _ (c .if1 .left)
 
 there : (c : tie.Else1) → let n = c .before .before .before in wordsFrom (Line n) (n .before .before .args .at) ≡ W n ∷ wordsFrom (Line n) (n .next-word .result .end)
-there c = let n = c .before .before .before in at-word (Line n) _ _ (n .next-word .ensures) (legal-long (W n) (good c))
+there c = let n = c .before .before .before in at-word (Line n) _ _ (n .next-word .ensures) (legal-some (W n) (good c))
 
 returns-2 : tie.Need-returns-2
 returns-2 c =

@@ -14,7 +14,7 @@ use Rattle.request.specs.declared.Asked.the-variants.{Malformed}
 use Rattle.request.specs.Asked.{named}
 use Rattle.request.proofs.Laws.{two-none, two-bad, two-short, two-worse, two-more, two-good}
 use Rattle.request.proofs.Says.{says-plain, says-names}
-use Rattle.request.proofs.Words.{at-word, either-way, legal-long}
+use Rattle.request.proofs.Words.{at-word, either-way, legal-some}
 use Rattle.request.proofs.arguments.two_names.Statement.{statement}
 use Rattle.request.proofs.arguments.two_names.Tie as tie
 
@@ -58,7 +58,7 @@ good e = sym (name-ok _ _ (e .before .before .read-name .ensures)) ∙ not-false
 there : (e : tie.Else1) →
     let n = Before e in
     wordsFrom (Line n) (n .before .before .args .at) ≡ A n ∷ wordsFrom (Line n) (n .next-word .result .end)
-there e = let n = Before e in at-word (Line n) _ _ (n .next-word .ensures) (legal-long (A n) (good e))
+there e = let n = Before e in at-word (Line n) _ _ (n .next-word .ensures) (legal-some (A n) (good e))
 
 next-word-requires-2 : tie.Need-next-word-requires-2
 next-word-requires-2 c κs = within (Before c) .inside
@@ -98,7 +98,7 @@ there-2 : (f : tie.Else2) →
 there-2 f =
     let m = f .before .before .before in
     let n = Before (m .before) in
-    there (m .before) ∙ ap (λ (ws : List (List ℕ)). A n ∷ ws) (at-word (Line n) _ _ (m .next-word2 .ensures) (legal-long (W m) (good-2 f)))
+    there (m .before) ∙ ap (λ (ws : List (List ℕ)). A n ∷ ws) (at-word (Line n) _ _ (m .next-word2 .ensures) (legal-some (W m) (good-2 f)))
 
 ended-requires : tie.Need-ended-requires
 ended-requires c κs = omega (arith, within-2 (c .before .before .before) .inside)

@@ -1,11 +1,10 @@
 use Prim.Native.Nat.{ℕ}
 use mathlib.Core.Path.{_≡_, sym, _∙_}
-use mathlib.Core.List.{List}
+use mathlib.Core.List.{List, _++_}
 use borrow.Author.Needs.{needs}
 use lib.ListN.{drop}
-use Rattle.model.specs.Request.{commands, readBy}
+use Rattle.model.specs.Request.{readBy, edits, settings}
 use Rattle.text.specs.Cursor.{wordOf}
-use Rattle.request.specs.Forms.{threeLetters, edits, settings}
 use Rattle.request.proofs.CommandLaws.{hit, miss}
 use Rattle.request.proofs.commands.edit.Statement.{statement}
 use Rattle.request.proofs.commands.edit.Tie as tie
@@ -14,29 +13,29 @@ use Rattle.request.proofs.commands.edit.Tie as tie
 abbrev W1 : tie.Else1 → List ℕ
 W1 c = let s = c .before .before .before .before in wordOf (s .args .line .now) (s .args .w)
 
-left1 : (c : tie.Else1) (args : List (List ℕ)) → readBy edits (W1 c) args ≡ readBy (drop 1 edits) (W1 c) args
-unfolding commands threeLetters edits
+left1 : (c : tie.Else1) (args : List (List ℕ)) → readBy (edits ++ settings) (W1 c) args ≡ readBy (drop 1 edits ++ settings) (W1 c) args
+unfolding edits
 left1 c args = miss _ _ _ args (sym (c .before .is-word .ensures) ∙ c .if1 .left)
 
 abbrev W2 : tie.Else2 → List ℕ
 W2 c = W1 (c .before .before .before)
 
-left2 : (c : tie.Else2) (args : List (List ℕ)) → readBy edits (W2 c) args ≡ readBy (drop 2 edits) (W2 c) args
-unfolding commands threeLetters edits
+left2 : (c : tie.Else2) (args : List (List ℕ)) → readBy (edits ++ settings) (W2 c) args ≡ readBy (drop 2 edits ++ settings) (W2 c) args
+unfolding edits
 left2 c args = left1 (c .before .before .before) args ∙ miss _ _ _ args (sym (c .before .is-word2 .ensures) ∙ c .if2 .left)
 
 abbrev W3 : tie.Else3 → List ℕ
 W3 c = W2 (c .before .before .before)
 
-left3 : (c : tie.Else3) (args : List (List ℕ)) → readBy edits (W3 c) args ≡ readBy (drop 3 edits) (W3 c) args
-unfolding commands threeLetters edits
+left3 : (c : tie.Else3) (args : List (List ℕ)) → readBy (edits ++ settings) (W3 c) args ≡ readBy (drop 3 edits ++ settings) (W3 c) args
+unfolding edits
 left3 c args = left2 (c .before .before .before) args ∙ miss _ _ _ args (sym (c .before .is-word3 .ensures) ∙ c .if3 .left)
 
 abbrev W4 : tie.Else4 → List ℕ
 W4 c = W3 (c .before .before .before)
 
-left4 : (c : tie.Else4) (args : List (List ℕ)) → readBy edits (W4 c) args ≡ readBy (drop 4 edits) (W4 c) args
-unfolding commands threeLetters edits
+left4 : (c : tie.Else4) (args : List (List ℕ)) → readBy (edits ++ settings) (W4 c) args ≡ readBy (drop 4 edits ++ settings) (W4 c) args
+unfolding edits
 left4 c args = left3 (c .before .before .before) args ∙ miss _ _ _ args (sym (c .before .is-word4 .ensures) ∙ c .if4 .left)
 
 slice-aggregate-is-word : tie.Need-slice-aggregate-is-word
@@ -46,7 +45,7 @@ is-word-requires : tie.Need-is-word-requires
 is-word-requires c κs = search needs
 
 returns : tie.Need-returns
-unfolding commands threeLetters edits
+unfolding edits
 returns c args = sym (hit _ _ _ args (sym (c .before .is-word .ensures) ∙ c .if1 .taken))
 
 slice-aggregate-is-word-2 : tie.Need-slice-aggregate-is-word-2
@@ -56,7 +55,7 @@ is-word-requires-2 : tie.Need-is-word-requires-2
 is-word-requires-2 c κs = search needs
 
 returns-2 : tie.Need-returns-2
-unfolding commands threeLetters edits
+unfolding edits
 returns-2 c args = sym (left1 (c .before .before .before) args ∙ hit _ _ _ args (sym (c .before .is-word2 .ensures) ∙ c .if2 .taken))
 
 slice-aggregate-is-word-3 : tie.Need-slice-aggregate-is-word-3
@@ -66,7 +65,7 @@ is-word-requires-3 : tie.Need-is-word-requires-3
 is-word-requires-3 c κs = search needs
 
 returns-3 : tie.Need-returns-3
-unfolding commands threeLetters edits
+unfolding edits
 returns-3 c args = sym (left2 (c .before .before .before) args ∙ hit _ _ _ args (sym (c .before .is-word3 .ensures) ∙ c .if3 .taken))
 
 slice-aggregate-is-word-4 : tie.Need-slice-aggregate-is-word-4
@@ -76,14 +75,14 @@ is-word-requires-4 : tie.Need-is-word-requires-4
 is-word-requires-4 c κs = search needs
 
 returns-4 : tie.Need-returns-4
-unfolding commands threeLetters edits
+unfolding edits
 returns-4 c args = sym (left3 (c .before .before .before) args ∙ hit _ _ _ args (sym (c .before .is-word4 .ensures) ∙ c .if4 .taken))
 
 setting-requires : tie.Need-setting-requires
 setting-requires c κs = search needs
 
 returns-5 : tie.Need-returns-5
-unfolding settings
+unfolding edits
 returns-5 c args = c .setting .ensures args ∙ sym (left4 (c .before) args)
 
 pub edit-spec : {M : Type 1} → statement M

@@ -3,9 +3,8 @@ use mathlib.Core.Path.{_≡_, sym, _∙_}
 use mathlib.Core.List.{List}
 use borrow.Author.Needs.{needs}
 use lib.ListN.{drop}
-use Rattle.model.specs.Request.{commands, readBy}
+use Rattle.model.specs.Request.{readBy, settings}
 use Rattle.text.specs.Cursor.{wordOf}
-use Rattle.request.specs.Forms.{threeLetters, edits, settings}
 use Rattle.request.proofs.CommandLaws.{hit, miss}
 use Rattle.request.proofs.commands.setting.Statement.{statement}
 use Rattle.request.proofs.commands.setting.Tie as tie
@@ -15,28 +14,28 @@ abbrev W1 : tie.Else1 → List ℕ
 W1 c = let s = c .before .before .before .before in wordOf (s .args .line .now) (s .args .w)
 
 left1 : (c : tie.Else1) (args : List (List ℕ)) → readBy settings (W1 c) args ≡ readBy (drop 1 settings) (W1 c) args
-unfolding commands threeLetters edits settings
+unfolding settings
 left1 c args = miss _ _ _ args (sym (c .before .is-word .ensures) ∙ c .if1 .left)
 
 abbrev W2 : tie.Else2 → List ℕ
 W2 c = W1 (c .before .before .before)
 
 left2 : (c : tie.Else2) (args : List (List ℕ)) → readBy settings (W2 c) args ≡ readBy (drop 2 settings) (W2 c) args
-unfolding commands threeLetters edits settings
+unfolding settings
 left2 c args = left1 (c .before .before .before) args ∙ miss _ _ _ args (sym (c .before .is-word2 .ensures) ∙ c .if2 .left)
 
 abbrev W3 : tie.Else3 → List ℕ
 W3 c = W2 (c .before .before .before)
 
 left3 : (c : tie.Else3) (args : List (List ℕ)) → readBy settings (W3 c) args ≡ readBy (drop 3 settings) (W3 c) args
-unfolding commands threeLetters edits settings
+unfolding settings
 left3 c args = left2 (c .before .before .before) args ∙ miss _ _ _ args (sym (c .before .is-word3 .ensures) ∙ c .if3 .left)
 
 abbrev W4 : tie.Else4 → List ℕ
 W4 c = W3 (c .before .before .before)
 
 left4 : (c : tie.Else4) (args : List (List ℕ)) → readBy settings (W4 c) args ≡ readBy (drop 4 settings) (W4 c) args
-unfolding commands threeLetters edits settings
+unfolding settings
 left4 c args = left3 (c .before .before .before) args ∙ miss _ _ _ args (sym (c .before .is-word4 .ensures) ∙ c .if4 .left)
 
 slice-aggregate-is-word : tie.Need-slice-aggregate-is-word
@@ -46,7 +45,7 @@ is-word-requires : tie.Need-is-word-requires
 is-word-requires c κs = search needs
 
 returns : tie.Need-returns
-unfolding commands threeLetters edits settings
+unfolding settings
 returns c args = sym (hit _ _ _ args (sym (c .before .is-word .ensures) ∙ c .if1 .taken))
 
 slice-aggregate-is-word-2 : tie.Need-slice-aggregate-is-word-2
@@ -56,7 +55,7 @@ is-word-requires-2 : tie.Need-is-word-requires-2
 is-word-requires-2 c κs = search needs
 
 returns-2 : tie.Need-returns-2
-unfolding commands threeLetters edits settings
+unfolding settings
 returns-2 c args = sym (left1 (c .before .before .before) args ∙ hit _ _ _ args (sym (c .before .is-word2 .ensures) ∙ c .if2 .taken))
 
 slice-aggregate-is-word-3 : tie.Need-slice-aggregate-is-word-3
@@ -66,7 +65,7 @@ is-word-requires-3 : tie.Need-is-word-requires-3
 is-word-requires-3 c κs = search needs
 
 returns-3 : tie.Need-returns-3
-unfolding commands threeLetters edits settings
+unfolding settings
 returns-3 c args = sym (left2 (c .before .before .before) args ∙ hit _ _ _ args (sym (c .before .is-word3 .ensures) ∙ c .if3 .taken))
 
 slice-aggregate-is-word-4 : tie.Need-slice-aggregate-is-word-4
@@ -76,11 +75,11 @@ is-word-requires-4 : tie.Need-is-word-requires-4
 is-word-requires-4 c κs = search needs
 
 returns-4 : tie.Need-returns-4
-unfolding commands threeLetters edits settings
+unfolding settings
 returns-4 c args = sym (left3 (c .before .before .before) args ∙ hit _ _ _ args (sym (c .before .is-word4 .ensures) ∙ c .if4 .taken))
 
 returns-5 : tie.Need-returns-5
-unfolding commands threeLetters edits settings readBy
+unfolding settings readBy
 returns-5 c args = sym (left4 c args)
 
 pub setting-spec : {M : Type 1} → statement M

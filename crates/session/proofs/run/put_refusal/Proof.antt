@@ -1,7 +1,11 @@
 -- `put_refusal`: three writes, one after the other.
+use Prim.Native.Nat.{_<_, _≤_}
 use mathlib.Core.Path.{_≡_}
+use lib.ListN.{length}
 use native.Mathlib.Omega.{arith}
-use Rattle.print.proofs.Laws.{length-over, decimal-short, wrote-then}
+use Rattle.model.specs.Reply.{decimal}
+use Rattle.model.proofs.Digits.{decimal-short}
+use Rattle.print.proofs.Laws.{length-over, wrote-then}
 use Rattle.session.proofs.Answering.{refusal-written}
 use borrow.Author.Needs.{needs}
 use Rattle.session.proofs.run.put_refusal.Statement.{statement}
@@ -12,6 +16,13 @@ use Rattle.print.proofs.put_byte.Reads as put-byte-reads
 use Rattle.print.proofs.put_decimal.Reads as put-decimal-reads
 use Rattle.print.proofs.put_text.Reads as put-text-reads
 
+-- the number is a byte, of three digits at most
+byte : (c : tie.Start) → c .args .number < 256
+byte c = search needs
+
+digits : (c : tie.Start) → length (decimal (c .args .number)) ≤ 3
+digits c = decimal-short 3 (c .args .number) (omega arith) (omega (arith, byte c))
+
 slice-aggregate-put-text : tie.Need-slice-aggregate-put-text
 slice-aggregate-put-text c = search needs
 
@@ -21,13 +32,13 @@ put-text-requires c κs = search needs
 put-decimal-requires : tie.Need-put-decimal-requires
 put-decimal-requires c κs =
     let start = c .before .before .before .before .before .before .before in
-    rw (c .before .before .before .put-text .ensures .bytes, length-over _ (start .args .out .now) 0) (omega (arith, c .before .before .before .put-text .ensures .place, decimal-short (start .args .number), start .pre))
+    rw (c .before .before .before .put-text .ensures .bytes, length-over _ (start .args .out .now) 0) (omega (arith, c .before .before .before .put-text .ensures .place, digits start, start .pre))
 
 put-byte-requires : tie.Need-put-byte-requires
 put-byte-requires c κs =
     let start = c .before .before .before .before .before .before .before .before .before .before .before in
     rw (c .before .before .before .put-decimal .ensures .bytes, length-over, c .before .before .before .before .before .before .before .put-text .ensures .bytes, length-over)
-    (omega (arith, c .before .before .before .before .before .before .before .put-text .ensures .place, c .before .before .before .put-decimal .ensures .place, decimal-short (start .args .number), start .pre))
+    (omega (arith, c .before .before .before .before .before .before .before .put-text .ensures .place, c .before .before .before .put-decimal .ensures .place, digits start, start .pre))
 
 same-length : tie.Need-same-length
 same-length c = search needs
@@ -35,7 +46,7 @@ same-length c = search needs
 returns : tie.Need-returns
 returns c =
     let start = c .before .before .before .before .before .before .before .before .before .before .before .before .before .before in
-    refusal-written (start .args .number) (start .args .out .now) (c .before .before .put-byte .last .0) (c .before .before .put-byte .result) (start .pre)
+    refusal-written (start .args .number) (byte start) (start .args .out .now) (c .before .before .put-byte .last .0) (c .before .before .put-byte .result) (start .pre)
     (wrote-then (c .before .before .before .before .before .before .before .before .before .before .put-text .ensures) (wrote-then (c .before .before .before .before .before .before .put-decimal .ensures) (c .before .before .put-byte .ensures)))
 
 pub put-refusal-spec : {M : Type 1} → statement M

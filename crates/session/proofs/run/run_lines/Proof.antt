@@ -5,9 +5,10 @@ use mathlib.Core.Logic.{⊎-elim}
 use native.Mathlib.Omega.{arith}
 use borrow.Author.Needs.{needs}
 use lib.ListN.{length, take, drop}
+use Rattle.model.specs.declared.Memory.{Memory as StoredMemory}
+use Rattle.model.specs.declared.State.{State as StoredState}
 use Rattle.model.specs.Stored.{stateOf, memoryShaped}
 use Rattle.commands.specs.Done.{done, Fits}
-use Rattle.engine.specs.Fine.{stateWith}
 use Rattle.lines.specs.Before.{before}
 use Rattle.lines.proofs.Laws.{end-inside}
 use Rattle.session.specs.Blocks.{Run}
@@ -26,6 +27,10 @@ use Rattle.memory.proofs.edit.removed_at.Reads as removed-at-reads
 use Rattle.memory.proofs.factory.factory_memory.Reads as factory-memory-reads
 use Rattle.session.proofs.run.joined.Reads as joined-reads
 use Rattle.session.proofs.run.say.Reads as say-reads
+
+-- the stored state of these parts
+abbrev stateWith : StoredMemory → StoredMemory → ℕ → ℕ → StoredState
+stateWith v p level error = record { volatile = v; permanent = p; level = level; error = error }
 
 abbrev Inv-loop : tie.InvT-loop
 Inv-loop block out₀ volatile₀ permanent₀ level₀ error₀ used₀ written₀ out volatile permanent level error used written =
@@ -92,44 +97,54 @@ say-requires c κs =
 
 -- ---- its turn
 
+-- the stages behind a turn: where its line ends, what was decided of it, and where the run began
+abbrev found : tie.After-slice-known3 Inv-loop μ-loop → tie.Else1 Inv-loop μ-loop
+found c = c .before .before .before .before .before .before .before .before .before .before
+
+abbrev decided : tie.After-slice-known3 Inv-loop μ-loop → tie.After-decide Inv-loop μ-loop
+decided c = c .before .before .before .before .before .before .before
+
+abbrev begun : tie.Else1 Inv-loop μ-loop → tie.Start Inv-loop μ-loop
+begun c = c .before .before .before .before .before .before .before .before
+
 -- what was decided is said
 said : (c : tie.After-slice-known3 Inv-loop μ-loop) →
-    let l = c .before .before .before .before .before .before .before .before .before .before .before .before .before .loop in
-    let start = c .before .before .before .before .before .before .before .before .before .before .before .before .before .before .before .before .before .before in
-    let step = c .before .before .before .before .before .before .before .decide in
+    let l = found c .before .before .before .loop in
+    let start = begun (found c) in
+    let step = decided c .decide in
     Turned (stateOf (start .args .s)) (start .args .block .now) (start .args .out .now)
     (withRest (withRest (l .out) (l .written) (step .last .1 .1 .1 .1 .0)) (l .written) (c .before .before .say .last .1 .1 .0))
     (stateWith (l .volatile) (l .permanent) (l .level) (l .error)) (step .result .decision)
-    (c .before .before .before .before .before .before .before .before .before .before .before .line-end .result + 1) (l .written + c .before .before .say .result)
+    (found c .before .line-end .result + 1) (l .written + c .before .before .say .result)
 said c =
-    let p = c .before .before .before .before .before .before .before .before .before .before in
-    let l = c .before .before .before .before .before .before .before .before .before .before .before .before .before .loop in
-    let start = c .before .before .before .before .before .before .before .before .before .before .before .before .before .before .before .before .before .before in
-    let step = c .before .before .before .before .before .before .before .decide in
+    let p = found c in
+    let l = found c .before .before .before .loop in
+    let start = begun (found c) in
+    let step = decided c .decide in
     let block = start .args .block .now in
     let end = p .before .line-end in
     let size : end .result - l .used ≡ before (drop (l .used) block) = omega (arith, end .ensures) in
     turned (stateOf (start .args .s)) block (start .args .out .now) (l .out) (stateWith (l .volatile) (l .permanent) (l .level) (l .error)) (l .used) (l .written) (l .inv)
     (end .result) (end .ensures) (inside p) _ (ap (λ (k : ℕ). take k (drop (l .used) block)) size)
     (rw (rest-long (l .out) (l .written)) (omega (arith, p .before .before .loop-test .taken)))
-    (step .result) _ (step .ensures (l .permanent) (l .inv .fine)) (c .before .before .before .before .before .before .out .given .0) _ _ (c .before .before .say .ensures) (c .before .out2 .given .0)
+    (step .result) _ (step .ensures (stateWith (l .volatile) (l .permanent) (l .level) (l .error)) refl refl refl (l .inv .fine)) (c .before .before .before .before .before .before .out .given .0) _ _ (c .before .before .say .ensures) (c .before .out2 .given .0)
 
 add-written : tie.Need-add-written Inv-loop μ-loop
 add-written c =
-    let start = c .before .before .before .before .before .before .before .before .before .before .before .before .before .before .before .before .before .before in
+    let start = begun (found c) in
     record { fits = omega (arith, said c .room, start .good .1 .1 .0 .0) }
 
 add-used : tie.Need-add-used Inv-loop μ-loop
 add-used c =
-    let start = c .before .before .before .before .before .before .before .before .before .before .before .before .before .before .before .before .before .before in
-    record { fits = omega (arith, inside (c .before .before .before .before .before .before .before .before .before .before), start .good .1 .0 .0) }
+    let start = begun (found c) in
+    record { fits = omega (arith, inside (found c), start .good .1 .0 .0) }
 
 -- less is left of the block
 less : (c : tie.After-slice-known3 Inv-loop μ-loop) →
-    let block = c .before .before .before .before .before .before .before .before .before .before .before .before .before .before .before .before .before .before .args .block .now in
-    length block - (c .before .before .before .before .before .before .before .before .before .before .before .line-end .result + 1) < length block - c .before .before .before .before .before .before .before .before .before .before .before .before .before .loop .used
+    let block = begun (found c) .args .block .now in
+    length block - (found c .before .line-end .result + 1) < length block - found c .before .before .before .loop .used
 less c =
-    omega (arith, inside (c .before .before .before .before .before .before .before .before .before .before), c .before .before .before .before .before .before .before .before .before .before .before .line-end .ensures)
+    omega (arith, inside (found c), found c .before .line-end .ensures)
 
 -- ---- what was decided is done
 

@@ -40,17 +40,17 @@ long s = length-word (s .args .line .now) (s .args .w .start) (s .args .w .end -
 sub-n : tie.Need-sub-n Inv-loop μ-loop
 sub-n c = c .before .before .pre .ordered
 
-no-name-requires : tie.Need-no-name-requires Inv-loop μ-loop
-no-name-requires c κs = search needs
+illegal-requires : tie.Need-illegal-requires Inv-loop μ-loop
+illegal-requires c κs = search needs
 
 returns : tie.Need-returns Inv-loop μ-loop
-returns c = let s = c .before .before .before .before in c .no-name .ensures ∙ sym (read-none (Word s) (legal-none (Word s) (long s ∙ c .before .if1 .taken)))
+returns c = let s = c .before .before .before .before in c .illegal .ensures ∙ sym (read-none (Word s) (legal-none (Word s) (long s ∙ c .before .if1 .taken)))
 
-no-name-requires-2 : tie.Need-no-name-requires-2 Inv-loop μ-loop
-no-name-requires-2 c κs = search needs
+illegal-requires-2 : tie.Need-illegal-requires-2 Inv-loop μ-loop
+illegal-requires-2 c κs = search needs
 
 returns-2 : tie.Need-returns-2 Inv-loop μ-loop
-returns-2 c = let s = c .before .before .before .before .before in c .no-name2 .ensures ∙ sym (read-none (Word s) (legal-long (Word s) (omega (arith, long s, c .before .if2 .taken))))
+returns-2 c = let s = c .before .before .before .before .before in c .illegal2 .ensures ∙ sym (read-none (Word s) (legal-long (Word s) (omega (arith, long s, c .before .if2 .taken))))
 
 shared-slice-read-upper : tie.Need-shared-slice-read-upper Inv-loop μ-loop
 shared-slice-read-upper c = let s = c .before .before .before .before .before in omega (arith, inside s, c .before .before .if1 .left)
@@ -61,8 +61,8 @@ upper-requires c κs = search needs
 between-requires : tie.Need-between-requires Inv-loop μ-loop
 between-requires c κs = search needs
 
-no-name-requires-3 : tie.Need-no-name-requires-3 Inv-loop μ-loop
-no-name-requires-3 c κs = search needs
+illegal-requires-3 : tie.Need-illegal-requires-3 Inv-loop μ-loop
+illegal-requires-3 c κs = search needs
 
 -- the first byte
 first : (c : tie.After-between Inv-loop μ-loop) → capital (getD (Word (c .before .before .before .before .before .before .before)) 0 0) ≡ c .between .result
@@ -78,7 +78,7 @@ returns-3 : tie.Need-returns-3 Inv-loop μ-loop
 returns-3 c =
     let b = c .before .before in
     let s = b .before .before .before .before .before .before .before in
-    c .no-name3 .ensures ∙ sym (read-none (Word s) (legal-first (Word s) (first b ∙ not-true _ (c .before .if3 .taken))))
+    c .illegal3 .ensures ∙ sym (read-none (Word s) (legal-first (Word s) (first b ∙ not-true _ (c .before .if3 .taken))))
 
 loop-holds : tie.Need-loop-holds Inv-loop μ-loop
 loop-holds c =
@@ -105,8 +105,8 @@ upper-requires-2 c κs = search needs
 name-byte-requires : tie.Need-name-byte-requires Inv-loop μ-loop
 name-byte-requires c κs = search needs
 
-no-name-requires-4 : tie.Need-no-name-requires-4 Inv-loop μ-loop
-no-name-requires-4 c κs = search needs
+illegal-requires-4 : tie.Need-illegal-requires-4 Inv-loop μ-loop
+illegal-requires-4 c κs = search needs
 
 -- a byte of the word
 abbrev StartOf : tie.At-loop Inv-loop μ-loop → tie.Start Inv-loop μ-loop
@@ -126,7 +126,7 @@ returns-4 c =
     let k = u .before .before .before in
     let w = Word (StartOf k) in
     let e : nameByte (getD w (k .loop .i) 0) ≡ false = ap nameByte (byte u) ∙ sym (b .name-byte .ensures) ∙ not-true _ (c .before .if4 .taken) in
-    c .no-name4 .ensures ∙
+    c .illegal4 .ensures ∙
     sym (read-none w (k .loop .inv .4 ∙ all-stop nameByte w (k .loop .i) 0 (omega (arith, long (StartOf k), u .before .before .loop-test .taken)) e))
 
 array-write-bytes : tie.Need-array-write-bytes Inv-loop μ-loop
@@ -183,21 +183,21 @@ read-name-spec =
     Inv-loop
     μ-loop
     sub-n
-    no-name-requires
+    illegal-requires
     returns
-    no-name-requires-2
+    illegal-requires-2
     returns-2
     shared-slice-read-upper
     upper-requires
     between-requires
-    no-name-requires-3
+    illegal-requires-3
     returns-3
     loop-holds
     add-at
     shared-slice-read-upper-2
     upper-requires-2
     name-byte-requires
-    no-name-requires-4
+    illegal-requires-4
     returns-4
     array-write-bytes
     add-i

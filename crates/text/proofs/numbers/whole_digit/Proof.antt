@@ -4,12 +4,14 @@ use native.Mathlib.Omega.{arith}
 use borrow.Author.Needs.{needs}
 use borrow.Author.Tests.{lt-ltb, le-ltb, eq-eqb, ne-eqb}
 use Rattle.model.specs.Words.{digit}
-use Rattle.text.proofs.NumberRange.{digit-is, pow-le}
+use Rattle.model.specs.Limits.{wholeDigits}
+use Rattle.model.proofs.Digits.{ten-monotone}
+use Rattle.text.proofs.NumberRange.{digit-is}
 use Rattle.text.proofs.numbers.whole_digit.Statement.{statement}
 use Rattle.text.proofs.numbers.whole_digit.Tie as tie
 
 mul-t6 : tie.Need-mul-t6
-mul-t6 c = omega (arith, pow-le (c .before .args .k) (c .before .pre .0))
+mul-t6 c = omega (arith, ten-monotone (c .before .args .k) wholeDigits (c .before .pre .0))
 
 returns : tie.Need-returns
 returns c = rw (eq-eqb _ _ (c .if1 .taken))
@@ -24,7 +26,7 @@ add-t9 : tie.Need-add-t9
 add-t9 c = search needs
 
 mul-t10 : tie.Need-mul-t10
-mul-t10 c = let s = c .before .before .before .before in omega (arith, pow-le (s .args .k) (s .pre .0), s .pre .1)
+mul-t10 c = let s = c .before .before .before .before in omega (arith, ten-monotone (s .args .k) wholeDigits (s .pre .0), s .pre .1)
 
 sub-wide : tie.Need-sub-wide
 sub-wide c = digit-is _ (told (c .before)) .low
@@ -36,7 +38,7 @@ add-t13 : tie.Need-add-t13
 add-t13 c =
     let s = c .before .before .before .before .before in
     let d = digit-is (s .args .b) (told (c .before .before)) in
-    rw (c .wide .ensures) (omega (arith, pow-le (s .args .k) (s .pre .0), s .pre .1))
+    rw (c .wide .ensures) (omega (arith, ten-monotone (s .args .k) wholeDigits (s .pre .0), s .pre .1))
 
 returns-2 : tie.Need-returns-2
 returns-2 c =

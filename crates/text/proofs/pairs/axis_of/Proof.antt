@@ -1,12 +1,50 @@
-use mathlib.Core.Path.{_≡_, sym, _∙_}
-use mathlib.Core.Bool.{false}
+use Prim.Native.Nat.{ℕ, suc}
+use mathlib.Core.Path.{_≡_, sym, ap, _∙_}
+use mathlib.Core.List.{List}
 use borrow.Author.Needs.{needs}
-use Rattle.model.specs.Ascii.{ascii}
-use Rattle.model.specs.Lists.{same}
+use lib.ListN.{drop}
+use Rattle.model.specs.Request.{axis, axisWords}
 use Rattle.text.specs.Cursor.{wordOf}
-use Rattle.text.proofs.PairLaws.{axis-place, placeIn}
+use Rattle.text.proofs.PairLaws.{placeIn, axis-place, place-hit, place-miss}
 use Rattle.text.proofs.pairs.axis_of.Statement.{statement}
 use Rattle.text.proofs.pairs.axis_of.Tie as tie
+
+-- the word, after each test that failed; the axes that it may still be are those behind
+abbrev W1 : tie.Else1 → List ℕ
+W1 c = let s = c .before .before .before .before in wordOf (s .args .line .now) (s .args .w)
+
+left1 : (c : tie.Else1) → axis (W1 c) ≡ suc (placeIn (drop 1 axisWords) (W1 c))
+left1 c = axis-place _ ∙ place-miss _ _ _ (sym (c .before .is-word .ensures) ∙ c .if1 .left)
+
+abbrev W2 : tie.Else2 → List ℕ
+W2 c = W1 (c .before .before .before)
+
+left2 : (c : tie.Else2) → axis (W2 c) ≡ suc (suc (placeIn (drop 2 axisWords) (W2 c)))
+left2 c = left1 (c .before .before .before) ∙ ap suc (place-miss _ _ _ (sym (c .before .is-word2 .ensures) ∙ c .if2 .left))
+
+abbrev W3 : tie.Else3 → List ℕ
+W3 c = W2 (c .before .before .before)
+
+left3 : (c : tie.Else3) → axis (W3 c) ≡ suc (suc (suc (placeIn (drop 3 axisWords) (W3 c))))
+left3 c = left2 (c .before .before .before) ∙ ap (λ (n : ℕ). suc (suc n)) (place-miss _ _ _ (sym (c .before .is-word3 .ensures) ∙ c .if3 .left))
+
+abbrev W4 : tie.Else4 → List ℕ
+W4 c = W3 (c .before .before .before)
+
+left4 : (c : tie.Else4) → axis (W4 c) ≡ suc (suc (suc (suc (placeIn (drop 4 axisWords) (W4 c)))))
+left4 c = left3 (c .before .before .before) ∙ ap (λ (n : ℕ). suc (suc (suc n))) (place-miss _ _ _ (sym (c .before .is-word4 .ensures) ∙ c .if4 .left))
+
+abbrev W5 : tie.Else5 → List ℕ
+W5 c = W4 (c .before .before .before)
+
+left5 : (c : tie.Else5) → axis (W5 c) ≡ suc (suc (suc (suc (suc (placeIn (drop 5 axisWords) (W5 c))))))
+left5 c = left4 (c .before .before .before) ∙ ap (λ (n : ℕ). suc (suc (suc (suc n)))) (place-miss _ _ _ (sym (c .before .is-word5 .ensures) ∙ c .if5 .left))
+
+abbrev W6 : tie.Else6 → List ℕ
+W6 c = W5 (c .before .before .before)
+
+left6 : (c : tie.Else6) → axis (W6 c) ≡ suc (suc (suc (suc (suc (suc (placeIn (drop 6 axisWords) (W6 c)))))))
+left6 c = left5 (c .before .before .before) ∙ ap (λ (n : ℕ). suc (suc (suc (suc (suc n))))) (place-miss _ _ _ (sym (c .before .is-word6 .ensures) ∙ c .if6 .left))
 
 slice-aggregate-is-word : tie.Need-slice-aggregate-is-word
 slice-aggregate-is-word c = search needs
@@ -14,11 +52,17 @@ slice-aggregate-is-word c = search needs
 is-word-requires : tie.Need-is-word-requires
 is-word-requires c κs = search needs
 
+returns : tie.Need-returns
+returns c = sym (axis-place _ ∙ place-hit _ _ _ (sym (c .before .is-word .ensures) ∙ c .if1 .taken))
+
 slice-aggregate-is-word-2 : tie.Need-slice-aggregate-is-word-2
 slice-aggregate-is-word-2 c = search needs
 
 is-word-requires-2 : tie.Need-is-word-requires-2
 is-word-requires-2 c κs = search needs
+
+returns-2 : tie.Need-returns-2
+returns-2 c = sym (left1 (c .before .before .before) ∙ ap suc (place-hit _ _ _ (sym (c .before .is-word2 .ensures) ∙ c .if2 .taken)))
 
 slice-aggregate-is-word-3 : tie.Need-slice-aggregate-is-word-3
 slice-aggregate-is-word-3 c = search needs
@@ -26,11 +70,17 @@ slice-aggregate-is-word-3 c = search needs
 is-word-requires-3 : tie.Need-is-word-requires-3
 is-word-requires-3 c κs = search needs
 
+returns-3 : tie.Need-returns-3
+returns-3 c = sym (left2 (c .before .before .before) ∙ ap (λ (n : ℕ). suc (suc n)) (place-hit _ _ _ (sym (c .before .is-word3 .ensures) ∙ c .if3 .taken)))
+
 slice-aggregate-is-word-4 : tie.Need-slice-aggregate-is-word-4
 slice-aggregate-is-word-4 c = search needs
 
 is-word-requires-4 : tie.Need-is-word-requires-4
 is-word-requires-4 c κs = search needs
+
+returns-4 : tie.Need-returns-4
+returns-4 c = sym (left3 (c .before .before .before) ∙ ap (λ (n : ℕ). suc (suc (suc n))) (place-hit _ _ _ (sym (c .before .is-word4 .ensures) ∙ c .if4 .taken)))
 
 slice-aggregate-is-word-5 : tie.Need-slice-aggregate-is-word-5
 slice-aggregate-is-word-5 c = search needs
@@ -38,58 +88,21 @@ slice-aggregate-is-word-5 c = search needs
 is-word-requires-5 : tie.Need-is-word-requires-5
 is-word-requires-5 c κs = search needs
 
+returns-5 : tie.Need-returns-5
+returns-5 c = sym (left4 (c .before .before .before) ∙ ap (λ (n : ℕ). suc (suc (suc (suc n)))) (place-hit _ _ _ (sym (c .before .is-word5 .ensures) ∙ c .if5 .taken)))
+
 slice-aggregate-is-word-6 : tie.Need-slice-aggregate-is-word-6
 slice-aggregate-is-word-6 c = search needs
 
 is-word-requires-6 : tie.Need-is-word-requires-6
 is-word-requires-6 c κs = search needs
 
--- what each comparison said
-no-X : (c : tie.Else1) → same (wordOf (c .before .before .before .before .args .line .now) (c .before .before .before .before .args .w)) (ascii "X") ≡ false
-no-X c = sym (c .before .is-word .ensures) ∙ c .if1 .left
-
-no-Y : (c : tie.Else2) → same (wordOf (c .before .before .before .before .before .before .before .args .line .now) (c .before .before .before .before .before .before .before .args .w)) (ascii "Y") ≡ false
-no-Y c = sym (c .before .is-word2 .ensures) ∙ c .if2 .left
-
-no-Z : (c : tie.Else3) → same (wordOf (c .before .before .before .before .before .before .before .before .before .before .args .line .now) (c .before .before .before .before .before .before .before .before .before .before .args .w)) (ascii "Z") ≡ false
-no-Z c = sym (c .before .is-word3 .ensures) ∙ c .if3 .left
-
-no-U : (c : tie.Else4) → same (wordOf (c .before .before .before .before .before .before .before .before .before .before .before .before .before .args .line .now) (c .before .before .before .before .before .before .before .before .before .before .before .before .before .args .w)) (ascii "U") ≡ false
-no-U c = sym (c .before .is-word4 .ensures) ∙ c .if4 .left
-
-no-V : (c : tie.Else5) → same (wordOf (c .before .before .before .before .before .before .before .before .before .before .before .before .before .before .before .before .args .line .now) (c .before .before .before .before .before .before .before .before .before .before .before .before .before .before .before .before .args .w)) (ascii "V") ≡ false
-no-V c = sym (c .before .is-word5 .ensures) ∙ c .if5 .left
-
-no-W : (c : tie.Else6) → same (wordOf (c .before .before .before .before .before .before .before .before .before .before .before .before .before .before .before .before .before .before .before .args .line .now) (c .before .before .before .before .before .before .before .before .before .before .before .before .before .before .before .before .before .before .before .args .w)) (ascii "W") ≡ false
-no-W c = sym (c .before .is-word6 .ensures) ∙ c .if6 .left
-
-returns : tie.Need-returns
-unfolding placeIn
-returns c = rw (axis-place _, sym (c .before .is-word .ensures) ∙ c .if1 .taken)
-
-returns-2 : tie.Need-returns-2
-unfolding placeIn
-returns-2 c = rw (axis-place _, no-X (c .before .before .before), sym (c .before .is-word2 .ensures) ∙ c .if2 .taken)
-
-returns-3 : tie.Need-returns-3
-unfolding placeIn
-returns-3 c = rw (axis-place _, no-X (c .before .before .before .before .before .before), no-Y (c .before .before .before), sym (c .before .is-word3 .ensures) ∙ c .if3 .taken)
-
-returns-4 : tie.Need-returns-4
-unfolding placeIn
-returns-4 c = rw (axis-place _, no-X (c .before .before .before .before .before .before .before .before .before), no-Y (c .before .before .before .before .before .before), no-Z (c .before .before .before), sym (c .before .is-word4 .ensures) ∙ c .if4 .taken)
-
-returns-5 : tie.Need-returns-5
-unfolding placeIn
-returns-5 c = rw (axis-place _, no-X (c .before .before .before .before .before .before .before .before .before .before .before .before), no-Y (c .before .before .before .before .before .before .before .before .before), no-Z (c .before .before .before .before .before .before), no-U (c .before .before .before), sym (c .before .is-word5 .ensures) ∙ c .if5 .taken)
-
 returns-6 : tie.Need-returns-6
-unfolding placeIn
-returns-6 c = rw (axis-place _, no-X (c .before .before .before .before .before .before .before .before .before .before .before .before .before .before .before), no-Y (c .before .before .before .before .before .before .before .before .before .before .before .before), no-Z (c .before .before .before .before .before .before .before .before .before), no-U (c .before .before .before .before .before .before), no-V (c .before .before .before), sym (c .before .is-word6 .ensures) ∙ c .if6 .taken)
+returns-6 c = sym (left5 (c .before .before .before) ∙ ap (λ (n : ℕ). suc (suc (suc (suc (suc n))))) (place-hit _ _ _ (sym (c .before .is-word6 .ensures) ∙ c .if6 .taken)))
 
 returns-7 : tie.Need-returns-7
 unfolding placeIn
-returns-7 c = rw (axis-place _, no-X (c .before .before .before .before .before .before .before .before .before .before .before .before .before .before .before), no-Y (c .before .before .before .before .before .before .before .before .before .before .before .before), no-Z (c .before .before .before .before .before .before .before .before .before), no-U (c .before .before .before .before .before .before), no-V (c .before .before .before), no-W c)
+returns-7 c = sym (left6 c)
 
 pub axis-of-spec : {M : Type 1} → statement M
 axis-of-spec =

@@ -28,15 +28,21 @@ kept-requires c κs = search needs
 
 returns : tie.Need-returns
 returns c =
+    let w = c .before in
+    let v = w .before in
+    let u = v .before in
+    let z = u .before in
+    let y = z .before in
+    let x = y .before in
     rw (
-      toZ-ofZ (sfits-of (c .before .before .before .before .before .before .kept-arg .given)),
-      toZ-ofZ (sfits-of (c .before .before .before .before .before .kept-arg2 .given)),
-      toZ-ofZ (sfits-of (c .before .before .before .before .kept-arg3 .given)),
-      toZ-ofZ (sfits-of (c .before .before .before .kept-arg4 .given)),
-      toZ-ofZ (sfits-of (c .before .before .kept-arg5 .given)),
-      toZ-ofZ (sfits-of (c .before .kept-arg6 .given)),
+      toZ-ofZ (sfits-of (x .kept-arg .given)),
+      toZ-ofZ (sfits-of (y .kept-arg2 .given)),
+      toZ-ofZ (sfits-of (z .kept-arg3 .given)),
+      toZ-ofZ (sfits-of (u .kept-arg4 .given)),
+      toZ-ofZ (sfits-of (v .kept-arg5 .given)),
+      toZ-ofZ (sfits-of (w .kept-arg6 .given)),
     ) at (c .kept .ensures) ∙
-    ranged-six (c .before .before .before .before .before .before .before .args .t1)
+    ranged-six (x .before .args .t1)
 
 pub finished-spec : {M : Type 1} → statement M
 finished-spec =

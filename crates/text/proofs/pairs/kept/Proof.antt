@@ -13,9 +13,6 @@ use Rattle.text.proofs.pairs.kept.Tie as tie
 in-range-requires : tie.Need-in-range-requires
 in-range-requires c κs = search needs
 
-refused-requires : tie.Need-refused-requires
-refused-requires c κs = search needs
-
 abbrev Six : tie.Start → Values
 Six s = six (s .args .x) (s .args .y) (s .args .z) (s .args .u) (s .args .v) (s .args .w)
 
@@ -26,7 +23,7 @@ told c =
 
 returns : tie.Need-returns
 unfolding ranged
-returns c = c .refused .ensures ∙ rw (sym (told (c .before .before)) ∙ not-true _ (c .before .if1 .taken))
+returns c = rw (sym (told (c .before)) ∙ not-true _ (c .if1 .taken))
 
 fine : (c : tie.Else1) → inRange (Six (c .before .before)) ≡ true
 fine c = sym (told (c .before)) ∙ not-false _ (c .if1 .left)
@@ -66,7 +63,6 @@ kept-spec =
     tie.close
     (tie.spec
     in-range-requires
-    refused-requires
     returns
     quarter-turns-requires
     quarter-turns-requires-2

@@ -1,0 +1,131 @@
+-- Histories over stored states: each stands for the machine's own history, so what holds of that holds of it.
+use Prim.Native.Nat.{ℕ, _≤_, _<_}
+use mathlib.Core.Path.{_≡_, refl, sym, ap, _∙_}
+use mathlib.Core.List.{List, [], _∷_, _++_, map}
+use mathlib.Core.Bool.{Bool, true, false, not, _&&_}
+use mathlib.Core.Option.{some}
+use native.Mathlib.Omega.{arith}
+use lib.Dec.{eqb}
+use lib.ListN.{length, take, drop}
+use lib.Seq.{take-append-seam}
+use Rattle.model.specs.Types.{StoredState}
+use Rattle.model.specs.Ascii.{ascii}
+use Rattle.model.specs.Limits.{bufferLimit}
+use Rattle.model.specs.Memory.{Memory, State}
+use Rattle.model.specs.Request.{reading}
+use Rattle.model.specs.Reply.{listing, everySystem, resultantLine}
+use Rattle.model.specs.Machine.{Outcome, answered, stepped, restart, startFactory, startImage}
+use Rattle.model.specs.Trace.{Call, Line, line, again, called, afterCalls, afterLines}
+use Rattle.model.specs.Demand.{Start, factory-start, image-start, startState, asksToEnable, noneTaken, steady, Replies}
+use Rattle.model.specs.Stored.{View, shapeless, holds, stateOf, shaped, viewOf, Answered, Restarted, ofOutcome, lineAnswer, restartAnswer}
+use Rattle.model.specs.Histories.{Returned, ReturnedAlone, standsFor, LinePromise, RestartPromise, Begins, at-factory, at-image, Calls, Lines, steadyBy, Stands, KltPrints, StoredAfterBoth, StoredDemand3, StoredChecklist}
+use Rattle.model.specs.Histories as stored
+use Rattle.model.proofs.Histories.Demand3.{demand-3}
+use Rattle.model.proofs.Histories.Checklist.{checklist}
+use Rattle.model.proofs.Basics.{and-split, and-join}
+
+-- ---- views
+
+-- a stored state whose view holds a state stands for it
+pub held-state : (s : StoredState) (st : State) → viewOf s ≡ holds st → stateOf s ≡ st
+unfolding viewOf
+held-state s st e = go (shaped s) refl
+  where
+    go : (t : Bool) → shaped s ≡ t → stateOf s ≡ st
+    go true q = let f : holds (stateOf s) ≡ holds st = rw (viewOf, q) at e in cc
+    go false q = let f : shapeless s ≡ holds st = rw (viewOf, q) at e in let z : _≡_ {A = ℕ} 0 1 = cc in absurd (omega arith)
+
+stands : (s : StoredState) (st : State) → viewOf s ≡ holds st → Stands s
+stands s st e = e ∙ ap holds (sym (held-state s st e))
+
+-- ---- one call
+
+module _ (s : StoredState) (st : State) (h : viewOf s ≡ holds st) where
+  line-promised : (l b : List ℕ) (r : Returned) → LinePromise s l b r → standsFor r ≡ ofOutcome (stepped st l b)
+  unfolding lineAnswer
+  line-promised l b r p = p ∙ rw h
+
+  line-state : (l b : List ℕ) (r : Returned) → LinePromise s l b r → viewOf (r .state) ≡ holds (stepped st l b .state)
+  line-state l b r p = ap (λ (a : Answered). a .state) (line-promised l b r p)
+
+  line-number : (l b : List ℕ) (r : Returned) → LinePromise s l b r → r .number ≡ stepped st l b .number
+  line-number l b r p = ap (λ (a : Answered). a .number) (line-promised l b r p)
+
+  restart-state : (r : ReturnedAlone) → RestartPromise s r → viewOf (r .state) ≡ holds (restart st .state)
+  unfolding restartAnswer
+  restart-state r p = ap (λ (a : Restarted). a .state) p ∙ rw h
+
+-- ---- lists of calls
+
+begins-held : {start : Start} {s : StoredState} → Begins start s → viewOf s ≡ holds (startState start)
+unfolding startState
+begins-held (at-factory s e) = e
+begins-held (at-image bytes m e r p) = ap (λ (a : Restarted). a .state) p
+
+calls-held : {s s′ : StoredState} {cs : List Call} (st : State) → viewOf s ≡ holds st → Calls s cs s′ → viewOf s′ ≡ holds (afterCalls st cs)
+unfolding afterCalls called
+calls-held st h (stored.none s) = h
+calls-held st h (stored.then-line s s′ l b r cs p rest) = calls-held (stepped st l b .state) (line-state s st h l b r p) rest
+calls-held st h (stored.then-restart s s′ r cs p rest) = calls-held (restart st .state) (restart-state s st h r p) rest
+
+lines-held : {s s′ : StoredState} {cs : List Line} {ns : List ℕ} (st : State) → viewOf s ≡ holds st → Lines s cs ns s′ → viewOf s′ ≡ holds (afterLines st cs)
+unfolding afterLines
+lines-held st h (stored.none s) = h
+lines-held st h (stored.then-line s s′ c r cs ns p rest) = lines-held (stepped st (c .bytes) (c .buffer) .state) (line-state s st h (c .bytes) (c .buffer) r p) rest
+
+-- what the lines returned is what the machine judges
+lines-steady : {s s′ : StoredState} {cs : List Line} {ns : List ℕ} (st : State) → viewOf s ≡ holds st → Lines s cs ns s′ → steadyBy cs ns ≡ true → steady st cs ≡ true
+unfolding noneTaken steadyBy
+lines-steady st h (stored.none s) e = refl
+lines-steady st h (stored.then-line s s′ c r cs ns p rest) e =
+    let o = stepped st (c .bytes) (c .buffer) in
+    let asks = asksToEnable (reading (c .bytes)) in
+    let n = line-number s st h (c .bytes) (c .buffer) r p in
+    let a = and-split (not (eqb (r .number) 0 && asks)) (steadyBy cs ns) e in
+    and-join (ap (λ (k : ℕ). not (eqb k 0 && asks)) (sym n) ∙ a .0)
+    (lines-steady (o .state) (line-state s st h (c .bytes) (c .buffer) r p) rest (a .1))
+
+-- ---- KLT? sent next
+
+module _ (s : StoredState) (st : State) (h : viewOf s ≡ holds st) (text : List ℕ) (k : Replies st (ascii "KLT?") text) where
+  klt-outcome : (b : List ℕ) (r : Returned) → LinePromise s (ascii "KLT?") b r → bufferLimit ≤ length b → standsFor r ≡ ofOutcome (answered st text b)
+  klt-outcome b r p room = line-promised s st h (ascii "KLT?") b r p ∙ ap ofOutcome (k .taken b room)
+
+  klt-text : (b : List ℕ) (r : Returned) → LinePromise s (ascii "KLT?") b r → bufferLimit ≤ length b → take (r .count) (r .buffer) ≡ text
+  klt-text b r p room =
+      let e = klt-outcome b r p room in
+      ap (λ (a : Answered). take (a .count) (a .buffer)) e ∙ take-append-seam text (drop (length text) b)
+
+  klt-prints : text ≡ listing (map (resultantLine (stateOf s .volatile .systems)) (everySystem (stateOf s .volatile .systems))) → KltPrints s
+  klt-prints e =
+      record {
+        short = λ b r p few. line-number s st h (ascii "KLT?") b r p ∙ k .short b few;
+        taken = λ b r p room. ap (λ (a : Answered). a .number) (klt-outcome b r p room);
+        text = λ b r p room. klt-text b r p room ∙ e;
+      }
+
+-- ---- demand 3 and the checklist
+
+-- the listing of KLT?
+abbrev table : State → List ℕ
+table st = listing (map (resultantLine (st .volatile .systems)) (everySystem (st .volatile .systems)))
+
+pub stored-demand-3 : StoredDemand3
+stored-demand-3 start first second numbers s₀ s s′ begun calls lines still =
+    let st = afterCalls (startState start) first in
+    let h = calls-held (startState start) (begins-held begun) calls in
+    let h′ = lines-held st h lines in
+    let d = demand-3 start first second (lines-steady st h lines still) in
+    let e = held-state s st h in
+    let e′ = held-state s′ (afterLines st second) h′ in
+    record {
+      began = stands s st h;
+      ended = stands s′ (afterLines st second) h′;
+      after = rw (e, e′) d;
+      prints = klt-prints s′ (afterLines st second) h′ (table (afterLines st second)) (d .listed .shown) (ap table (sym e′));
+    }
+
+pub stored-checklist : StoredChecklist
+stored-checklist start calls s₀ s begun history =
+    let h = calls-held (startState start) (begins-held begun) history in
+    (stands s _ h, rw (held-state s _ h) (checklist start calls))

@@ -1,0 +1,87 @@
+-- The examples hold: each is computed, from lines of bytes to replies, images and numbers.
+use mathlib.Core.Path.{refl}
+use Rattle.model.specs.Stored.{memoryShaped, shaped, viewOf, lineAnswer, imageAnswer, restartAnswer}
+use Rattle.model.specs.Sessions.{hexSpelled, hex, sent, comes, otherwise}
+use Rattle.model.specs.Examples.{Examples, OfMemories, OfPoses, OfLines, OfCommands, OfLists, OfNumbers, OfImages, OfHistories, OfStorage}
+use Rattle.model.proofs.Open.{definitions-open}
+
+unfoldable sessions-open : Unit {0}
+unfolding hexSpelled hex sent comes otherwise memoryShaped shaped viewOf lineAnswer imageAnswer restartAnswer definitions-open
+sessions-open = tt
+
+of-memories : OfMemories
+unfolding sessions-open
+of-memories = record { systems = refl; predecessors = refl; offsets = refl; enabled = refl; in-use = refl; restart = refl; factory-state = refl }
+
+of-poses : OfPoses
+unfolding sessions-open
+of-poses = record { turns = refl; product = refl; chains = refl }
+
+of-lines : OfLines
+unfolding sessions-open
+of-lines = record {
+  words = refl;
+  fixed-words = refl;
+  names = refl;
+  reserved-names = refl;
+  numbers = refl;
+  pairs = refl;
+  angles = refl;
+  longest = refl;
+  too-long = refl;
+  last-byte = refl;
+  outside = refl;
+  control = refl;
+}
+
+of-commands : OfCommands
+unfolding sessions-open
+of-commands = record { define = refl; define-on-enabled = refl; link = refl; copy = refl; remove = refl; enable-zero = refl; enable-fixed = refl; level = refl; memories = refl; last-error = refl }
+
+of-lists : OfLists
+unfolding sessions-open
+of-lists = record { own-values = refl; resultants = refl }
+
+of-numbers : OfNumbers
+unfolding sessions-open
+of-numbers = record {
+  one-level = refl;
+  one-error = refl;
+  one-other-error = refl;
+  one-volatile = refl;
+  one-permanent = refl;
+  one-restart = refl;
+  one-image = refl;
+  last-errors = refl;
+  two = refl;
+  two-image = refl;
+  two-first = refl;
+  seven = refl;
+  eight = refl;
+  nine = refl;
+  ten = refl;
+  eleven = refl;
+  twelve = refl;
+  thirteen = refl;
+  three-first = refl;
+  first = refl;
+  refusal = refl;
+  reply = refl;
+  no-reply = refl;
+}
+
+of-images : OfImages
+unfolding sessions-open
+of-images = record { writing = refl; starting = refl; refused-forms = refl; refused-systems = refl; refused-enabled = refl }
+
+of-histories : OfHistories
+unfolding sessions-open
+of-histories = record { still = refl; prints = refl }
+
+of-storage : OfStorage
+unfolding sessions-open
+of-storage = record { free = refl; free-zero = refl; answered-as = refl; count-beyond = refl; length-beyond = refl; no-image = refl; no-restart = refl }
+
+pub examples : Examples
+examples =
+    record { memories = of-memories; poses = of-poses; lines = of-lines; commands = of-commands; lists = of-lists; numbers = of-numbers; images = of-images; histories = of-histories; storage = of-storage }
