@@ -5,18 +5,17 @@ use mathlib.Core.List.{List, [], _++_}
 use native.Mathlib.Omega.{arith}
 use lib.ListN.{length, take, drop, length-take, length-drop}
 use lib.Seq.{take-add, take-take}
-use Rattle.session.specs.Feed.{Held, Fed, fed}
+use Rattle.lines.proofs.Feeding.{fed-nothing, fed-append}
+use Rattle.session.specs.Feed.{Held, Fed, answering, fed}
 use Rattle.session.specs.Blocks.{heldOf, Feeds}
 use Rattle.session.specs.declared.feed.Session.{Session}
 use Rattle.session.specs.declared.feed.Fed.{Fed as StoredFed}
-use Rattle.session.proofs.Lines.{fed-nothing}
 use Rattle.session.proofs.Rest.{replied-first}
-use Rattle.session.proofs.Whole.{fed-append}
 use Rattle.console.specs.Serve.{given, Between}
 
 -- before the first byte
 pub given-nothing : (s : Session) → heldOf s ≡ given s [] .held
-given-nothing s = ap (λ (x : Fed). x .held) (sym (fed-nothing (heldOf s .state) (heldOf s .line)))
+given-nothing s = ap (λ (x : Fed). x .held) (sym (fed-nothing answering (heldOf s .state) (heldOf s .line)))
 
 -- the rest of a block from a place on
 abbrev pub rest : List ℕ → ℕ → List ℕ
@@ -48,5 +47,5 @@ module _ (s : Session) (block : List ℕ) (t : Session) (at : ℕ) (held : heldO
       let n : end ≡ at + (end - at) = omega arith in
       let whole : take end block ≡ take at block ++ p = ap (λ (k : ℕ). take k block) n ∙ take-add at (end - at) block in
       let gone : given s (take end block) .held ≡ fed (given s (take at block) .held .state) (given s (take at block) .held .line) p .held =
-      ap (λ (l : List ℕ). given s l .held) whole ∙ ap (λ (x : Fed). x .held) (fed-append (take at block) (heldOf s .state) (heldOf s .line) p) in
+      ap (λ (l : List ℕ). given s l .held) whole ∙ ap (λ (x : Fed). x .held) (fed-append answering (take at block) (heldOf s .state) (heldOf s .line) p) in
       feeds .held ∙ ap (λ (l : List ℕ). given t l .held) (part-is end e) ∙ sym (gone ∙ ap (λ (h : Held). fed (h .state) (h .line) p .held) (sym held))

@@ -1,14 +1,13 @@
 -- The rest of a buffer: lent from a place on, and put back.
 use Prim.Native.Nat.{ℕ, _+_, _-_, _≤_}
 use mathlib.Core.Path.{_≡_, refl, sym, ap, _∙_}
-use mathlib.Core.List.{List, [], _++_, append-assoc}
+use mathlib.Core.List.{List, [], _++_, append-assoc, append-nil}
 use native.Mathlib.Omega.{arith}
 use lib.ListN.{length, take, drop, length-append, length-take, length-drop, drop-of-length-le}
 use lib.Seq.{drop-drop, drop-at, take-all, take-append-seam, drop-append-seam, length-take-le}
 use borrow.Rule.Slice.PartMut.{putMid, take-put}
 use Rattle.model.specs.Machine.{written}
 use Rattle.reply.specs.Lines.{Replied}
-use Rattle.session.proofs.Cutting.{append-nil}
 
 -- what is lent of a buffer from place w on, and the buffer once y is put back there
 abbrev pub rest : List ℕ → ℕ → List ℕ
