@@ -9,11 +9,12 @@ use lib.Seq.{take-all, length-take-le}
 use borrow.Author.Tests.{lt-leb}
 use Rattle.lines.specs.Feed.{Answer, kept}
 use Rattle.lines.specs.Whole.{Clips}
+use Rattle.lines.proofs.Whole.{whole-input}
 use Rattle.print.specs.Over.{Wrote}
 use Rattle.print.proofs.Laws.{wrote-then, length-over}
 use Rattle.script.specs.Directive.{Order, longestLine, unclear, order}
 use Rattle.script.specs.Obey.{done, nextState, answer}
-use Rattle.script.specs.Run.{Place, place, following, answering, Keeps}
+use Rattle.script.specs.Run.{Place, place, following, answering, Whole, Keeps}
 use Rattle.script.proofs.HexLaws.{read-back}
 
 -- ---- a line that is too long
@@ -32,6 +33,10 @@ order-kept l =
 -- what is kept of a line tells its answer
 pub clips : Clips answering
 clips p l = ap {B = Answer Place} (λ (o : Order). record { state = place (nextState (p .view) (done (p .view) o)) (following (p .number)); text = answer (p .number) (done (p .view) o) }) (order-kept l)
+
+-- what the blocks print, and then the end, is what all lines of the input are answered
+pub whole : Whole
+whole = whole-input answering clips
 
 -- ---- what was written to the front of a buffer
 

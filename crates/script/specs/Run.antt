@@ -1,12 +1,13 @@
 -- ksscript for input that comes in blocks: lines are cut as in lines/specs/Feed.antt, and answered as Obey.antt says.
 use Prim.Native.Nat.{ℕ, suc, _+_, _*_, _%_, _^_, _≤_, _<_}
 use mathlib.Core.Path.{_≡_}
-use mathlib.Core.List.{List, [], _++_}
+use mathlib.Core.List.{List}
 use mathlib.Core.Bool.{true}
 use lib.ListN.{length, take}
 use Rattle.model.specs.Machine.{startFactory}
 use Rattle.model.specs.Stored.{View, holds, viewOf}
-use Rattle.lines.specs.Feed.{Machine, Held, Fed, fed, ended, holding, kept}
+use Rattle.lines.specs.Feed.{Machine, Held, Fed, fed, ended, holding}
+use Rattle.lines.specs.Whole.{WholeInput}
 use Rattle.print.specs.Over.{Wrote}
 use Rattle.script.specs.declared.feed.Script.{Script}
 use Rattle.script.specs.declared.feed.Fed.{Fed as StoredFed}
@@ -34,6 +35,10 @@ answering =
       answer = λ p l. record { state = place (nextState (p .view) (done (p .view) (order l))) (following (p .number)); text = answer (p .number) (done (p .view) (order l)) };
       limit = longestLine;
     }
+
+-- block by block or whole, the same is answered
+abbrev pub Whole : Type 0
+Whole = WholeInput answering
 
 -- ---- what is stored
 

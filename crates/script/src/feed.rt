@@ -142,11 +142,11 @@ pub fn finish(s: Script, held: &[u8], bytes: &mut [u8], reply: &mut [u8], out: &
     requires { ⌜ s .held ≤ length (now held) ⌝ }
     ensures { λ r. ⌜ Ends s (now (held .entry)) (now (out .entry)) (now (out .exit)) r ⌝ }
 {
-    let count = s.held;
-    if count == 0 {
+    let n = s.held;
+    if n == 0 {
         return 0;
     }
     let state = s.state;
-    let o = obey(state, &held[..count], s.line, bytes, reply, out, 0);
+    let o = obey(state, &held[..n], s.line, bytes, reply, out, 0);
     o.end
 }

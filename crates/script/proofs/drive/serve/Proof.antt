@@ -163,7 +163,7 @@ loop-again c =
       used k,
       omega (arith, f .ensures .few, same, next),
       part-held (a .s) (a .held .now) (a .block .now) (l .script) (l .held) (l .at) (l .inv .7) _ _ _ (f .result) (f .ensures) (end k) refl _
-      (kept-front _ (f .result .script .held) (f .ensures .few) same (kept .ensures .0)),
+          (kept-front _ (f .result .script .held) (f .ensures .few) same (kept .ensures .0)),
     )
 
 same-length-6 : tie.Need-same-length-6 Inv-loop μ-loop

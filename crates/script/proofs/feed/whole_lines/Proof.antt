@@ -135,8 +135,8 @@ loop-again c =
       omega (arith, l .inv .2),
       omega (arith, l .inv .3),
       rw (c .wrapping-add-u64 .ensures)
-      (run-turn (place (viewOf (a .s .state)) (a .s .line)) block (a .out .now) (l .out) (l .state) (l .number) (l .at) (l .written) (l .inv .4) (k .line-end .result) (k .line-end .ensures)
-      (inside c) _ line _ (obeyed c .obey .result) (obeyed c .obey .ensures) (l .inv .3)),
+          (run-turn (place (viewOf (a .s .state)) (a .s .line)) block (a .out .now) (l .out) (l .state) (l .number) (l .at) (l .written) (l .inv .4) (k .line-end .result) (k .line-end .ensures)
+          (inside c) _ line _ (obeyed c .obey .result) (obeyed c .obey .ensures) (l .inv .3)),
     )
 
 same-length-5 : tie.Need-same-length-5 Inv-loop μ-loop
