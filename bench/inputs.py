@@ -1,4 +1,4 @@
-"""Inputs for the benchmark and the fuzz: lines by kind, and random lines by a seed."""
+"""Inputs for the benchmark and the fuzz: lines by kind, and random lines and directives by a seed."""
 import random
 
 NAMES = ["N%02d" % i for i in range(16)]
@@ -138,11 +138,70 @@ def random_line(r, names):
     return text.encode()
 
 
+SMALL_SET = NAMES[:6] + ["A", "B", "W1", "W2", "T1", "T2", "K1", "K2", "K3", "L1", "L2", "L3", "Q" * 16]
+
+
 def random_lines(seed, count):
     r = random.Random(seed)
-    names = NAMES[:6] + ["A", "B", "W1", "W2", "T1", "T2", "K1", "K2", "K3", "L1", "L2", "L3", "Q" * 16]
     for _ in range(count):
-        yield random_line(r, names)
+        yield random_line(r, SMALL_SET)
+
+
+# ---- directives of ksscript
+
+def spelled(data, r):
+    """Bytes in hexadecimal, in either case."""
+    text = data.hex() or "-"
+    return (text.upper() if r.random() < 0.05 else text).encode()
+
+
+def length(r):
+    """The length of a lent buffer: mostly long enough, often at the border."""
+    return b"%d" % r.choice([4096, 4096, 4096, 4097, 65536, 4095, 0, 1, r.randrange(5000)])
+
+
+def damaged(image, r):
+    """An image with one byte changed, left out or put in, or a part of it."""
+    data = bytearray(bytes.fromhex(image.decode()))
+    at = r.randrange(len(data))
+    pick = r.random()
+    if pick < 0.5:
+        data[at] = r.choice([0, 1, 2, 127, 128, data[at] ^ 1, data[at] ^ 128, r.randrange(256)])
+    elif pick < 0.7:
+        del data[at]
+    elif pick < 0.9:
+        data.insert(at, r.choice([0, 1, 128, r.randrange(256)]))
+    else:
+        del data[at:]
+    return bytes(data)
+
+
+def no_directive(r):
+    return r.choice([b"", b"X", b"r", b"L", b"L 4b", b"L 4 4096", b"L 4g 4096", b"L 4b 65537", b"L 4b 4096 1", b"W", b"W -1", b"W 1 2", b"I", b"I 0",
+                     b"R R", b"N 0", b"\tR", b"W 99999999999999999999999", b"I " + b"ff" * r.randrange(40), b"L - 18446744073709551616"])
+
+
+def random_directive(r, images):
+    pick = r.random()
+    if pick < 0.72:
+        return b"L %s %s" % (spelled(random_line(r, SMALL_SET), r), length(r))
+    if pick < 0.82:
+        return b"W " + length(r)
+    if pick < 0.88:
+        return b"R"
+    if pick < 0.90:
+        return b"N"
+    if pick < 0.97 and images:
+        image = r.choice(images)
+        return b"I " + spelled(damaged(image, r) if r.random() < 0.6 else bytes.fromhex(image.decode()), r)
+    return no_directive(r)
+
+
+def random_directives(seed, count, images):
+    """Directives for ksscript; images (in hexadecimal) are started from, whole and damaged."""
+    r = random.Random(seed)
+    for _ in range(count):
+        yield random_directive(r, images)
 
 
 def lines_of(kind):

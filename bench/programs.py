@@ -1,4 +1,4 @@
-"""The two programs that are compared: ksrun of this repository, and its Rust twin."""
+"""The programs that are compared: ksrun and ksscript of this repository, and their Rust twin."""
 import os
 import pathlib
 import subprocess
@@ -8,15 +8,29 @@ import tempfile
 here = pathlib.Path(__file__).resolve().parent
 
 
+def built(name):
+    path = here.parent / "target/bin" / name
+    if not path.exists():
+        sys.exit("no %s: run `rt check %s` first" % (path, name))
+    return [str(path)]
+
+
 def ksrun():
-    built = here.parent / "target/bin/ksrun"
-    if not built.exists():
-        sys.exit("no %s: run `rt check ksrun` first" % built)
-    return [str(built)]
+    return built("ksrun")
 
 
-def twin():
+def ksscript():
+    return built("ksscript")
+
+
+def twin(mode="run"):
+    """The twin's command: as ksrun (run) or as ksscript (script)."""
     target = pathlib.Path(tempfile.gettempdir()) / "julomavien-twin"
     env = dict(os.environ, CARGO_TARGET_DIR=str(target))
-    subprocess.run(["cargo", "build", "--release", "--quiet", "--manifest-path", str(here / "twin/Cargo.toml")], check=True, env=env)
-    return [str(target / "release/ksrs"), "run"]
+    subprocess.run(["cargo", "build", "--release", "--quiet", "--offline", "--manifest-path", str(here / "twin/Cargo.toml")], check=True, env=env)
+    return [str(target / "release/ksrs"), mode]
+
+
+def answers(command, text):
+    """All that a program prints for an input in one piece."""
+    return subprocess.run(command, input=text, stdout=subprocess.PIPE, check=True).stdout

@@ -3,11 +3,13 @@ use session::feed::Session;
 use session::feed::begin;
 use session::feed::feed;
 use session::feed::finish;
+ghost use mathlib.Core.Path.{_≡_};
 ghost use Prim.Native.Nat.{_≤_};
 ghost use lib.ListN.{length};
 ghost use Rattle.model.specs.Limits.{bufferLimit};
-ghost use Rattle.engine.specs.Fine.{Fine};
-ghost use Rattle.session.specs.Feed.{enough};
+ghost use Rattle.session.specs.Feed.{ended};
+ghost use Rattle.session.specs.Blocks.{heldOf};
+ghost use Rattle.console.specs.Serve.{given, Between, Serves};
 
 const INPUT: i32 = 0;
 
@@ -21,22 +23,41 @@ struct Served {
     ok: bool,
 }
 
+// Standard output gets what the session prints for a part of its input, and nothing else.
+fn write_answers(s: Session, part: &[u8], answers: &[u8]) -> bool
+    requires { ⌜ now answers ≡ given s (now part) .output ⌝ }
+{
+    io::write_all(OUTPUT, answers)
+}
+
+// The same for the end of the input: bytes after the last LF, if any, are one more line.
+fn write_last(s: Session, answers: &[u8]) -> bool
+    requires { ⌜ now answers ≡ ended (heldOf s) ⌝ }
+{
+    io::write_all(OUTPUT, answers)
+}
+
+fn complain_of_output() {
+    io::write_all(ERRORS, b"ksrun: standard output cannot be written\n");
+}
+
 // A block is fed until all of it is used; the answers are written as the buffer fills, and at the end.
 fn serve(s: Session, block: &[u8], out: &mut [u8]) -> Served
-    requires { ⌜ Fine (s .state) × (s .held .count ≤ enough) ⌝ }
+    requires { ⌜ Between s ⌝ }
     requires { ⌜ bufferLimit ≤ length (now out) ⌝ }
-    ensures { λ r. ⌜ Fine (r .session .state) × (r .session .held .count ≤ enough) ⌝ }
+    ensures { λ r. ⌜ Serves s (now (block .entry)) r ⌝ }
 {
     let mut session = s;
     let mut at = 0;
     while at < block.len() {
         let f = feed(session, &block[at..], out);
-        session = f.session;
-        at += f.used;
+        let end = at + f.used;
         let written = f.written;
-        if !io::write_all(OUTPUT, &out[..written]) {
+        if !write_answers(session, &block[at..end], &out[..written]) {
             return Served { session, ok: false };
         }
+        session = f.session;
+        at = end;
     }
     Served { session, ok: true }
 }
@@ -59,12 +80,14 @@ pub fn run() {
         }
         let served = serve(session, &input[..n], &mut output);
         if !served.ok {
-            io::write_all(ERRORS, b"ksrun: standard output cannot be written\n");
+            complain_of_output();
             return;
         }
         session = served.session;
         turns -= 1;
     }
     let n = finish(session, &mut output);
-    io::write_all(OUTPUT, &output[..n]);
+    if !write_last(session, &output[..n]) {
+        complain_of_output();
+    }
 }

@@ -11,6 +11,15 @@ use lib.Seq.{drop-cons}
 use borrow.Author.Tests.{eq-eqb, ne-eqb}
 use Rattle.lines.specs.Before.{before}
 
+module _ (b : ℕ) (bs : List ℕ) where
+  pub before-now : eqb b 10 ≡ true → before (b ∷ bs) ≡ 0
+  unfolding before
+  before-now h = rw (h, before)
+
+  pub before-more : eqb b 10 ≡ false → before (b ∷ bs) ≡ suc (before bs)
+  unfolding before
+  before-more h = rw (h, before)
+
 module _ (l : List ℕ) (i : ℕ) where
   pub before-here : i < length l → getD l i 0 ≡ 10 → before (drop i l) ≡ 0
   unfolding before

@@ -1,1 +1,3 @@
 pub mod Before
+pub mod Feed
+pub mod Whole

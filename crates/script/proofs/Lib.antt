@@ -5,3 +5,6 @@ pub mod OrderLaws
 pub mod AnswerLaws
 pub mod ObeyLaws
 pub mod Table
+pub mod Cutting
+pub mod Running
+pub mod Serving

@@ -3,7 +3,7 @@ use Prim.Native.Nat.{ℕ, _≤_}
 use mathlib.Core.Path.{_≡_}
 use mathlib.Core.List.{List, []}
 use mathlib.Core.Option.{Option, none, some}
-use lib.ListN.{length, take}
+use lib.ListN.{length, take, replicate}
 use Rattle.model.specs.Machine.{startFactory, startImage, began}
 use Rattle.model.specs.Stored.{View, viewOf, Answered, Restarted, ofBegun, lineAnswer, imageAnswer, restartAnswer}
 use Rattle.print.specs.Over.{Wrote}
@@ -23,14 +23,18 @@ lent a = record { state = a .state; number = a .number; text = take (a .count) (
 abbrev pub alone : Restarted → Done
 alone r = record { state = r .state; number = r .number; text = [] }
 
--- the call that is ordered; of the buffer b as many bytes are lent as it says
-unfoldable pub done : View → Order → List ℕ → Option Done
-done v (line l n) b = some (lent (lineAnswer v l (take n b)))
-done v restart b = some (alone (restartAnswer v))
-done v (write n) b = some (lent (imageAnswer v (take n b)))
-done v (start image) b = some (alone (ofBegun (startImage image)))
-done v factory b = some (alone (ofBegun (began startFactory 0)))
-done v unclear b = none
+-- a buffer of so many bytes. (What it holds does not show: lines/proofs/Lent.antt)
+abbrev pub blank : ℕ → List ℕ
+blank n = replicate n 0
+
+-- the call that is ordered
+unfoldable pub done : View → Order → Option Done
+done v (line l n) = some (lent (lineAnswer v l (blank n)))
+done v restart = some (alone (restartAnswer v))
+done v (write n) = some (lent (imageAnswer v (blank n)))
+done v (start image) = some (alone (ofBegun (startImage image)))
+done v factory = some (alone (ofBegun (began startFactory 0)))
+done v unclear = none
 
 -- what is no directive changes nothing
 unfoldable pub nextState : View → Option Done → View
@@ -51,7 +55,7 @@ pub record Answers (d : Done) (before : List ℕ) (at : ℕ) (after : List ℕ) 
   pub inside : o .end ≤ length before
 
 -- a line was obeyed, whatever it was
-pub record Obeys (v : View) (k : ℕ) (l b before : List ℕ) (at : ℕ) (after : List ℕ) (o : Obeyed) : Type 0 where
-  pub state : viewOf (o .state) ≡ nextState v (done v (order l) b)
-  pub text : Wrote (answer k (done v (order l) b)) before at after (o .end)
+pub record Obeys (v : View) (k : ℕ) (l before : List ℕ) (at : ℕ) (after : List ℕ) (o : Obeyed) : Type 0 where
+  pub state : viewOf (o .state) ≡ nextState v (done v (order l))
+  pub text : Wrote (answer k (done v (order l))) before at after (o .end)
   pub inside : o .end ≤ length before

@@ -1,7 +1,9 @@
 // What is held of a line that no block of the input has ended yet.
+ghost use mathlib.Core.List.{_++_};
 ghost use Prim.Native.Nat.{_-_, _≤_};
 ghost use lib.ListN.{length, take};
 ghost use Rattle.print.specs.Over.{Wrote};
+ghost use Rattle.script.specs.Run.{Keeps};
 
 // The part's bytes behind the first count, as many as there is room for.
 pub fn keep(line: &mut [u8], count: usize, part: &[u8]) -> usize
@@ -14,4 +16,12 @@ pub fn keep(line: &mut [u8], count: usize, part: &[u8]) -> usize
         return print::put_text(line, count, part);
     }
     print::put_text(line, count, &part[..room])
+}
+
+// What was held of a line, and the part behind it, to the front of a lent buffer, as far as it goes.
+pub fn join(line: &mut [u8], held: &[u8], part: &[u8]) -> usize
+    ensures { λ r. ⌜ Keeps (now (held .entry) ++ now (part .entry)) (now (line .exit)) r ⌝ }
+{
+    let count = keep(line, 0, held);
+    keep(line, count, part)
 }

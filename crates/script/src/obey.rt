@@ -14,7 +14,7 @@ ghost use Rattle.machine.specs.Calls.{begunOf};
 ghost use Rattle.script.specs.Directive.{longestLine, longestLent};
 ghost use Rattle.script.specs.Answer.{longestAnswer};
 ghost use Rattle.script.specs.Obey as Obey;
-ghost use Rattle.script.specs.Obey.{alone, Answers, Obeys};
+ghost use Rattle.script.specs.Obey.{alone, blank, Answers, Obeys};
 
 // The next state, and where the answer ends.
 pub struct Obeyed {
@@ -49,7 +49,7 @@ fn say_begun(r: Begun, out: &mut [u8], at: usize) -> Obeyed
 
 fn obey_line(s: State, line: &[u8], lent: &mut [u8], out: &mut [u8], at: usize) -> Obeyed
     requires { ⌜ at + 2 * length (now lent) + 7 ≤ length (now out) ⌝ }
-    ensures { λ o. ⌜ Answers (Obey.lent (lineAnswer (viewOf s) (now (line .entry)) (now (lent .entry)))) (now (out .entry)) at (now (out .exit)) o ⌝ }
+    ensures { λ o. ⌜ Answers (Obey.lent (lineAnswer (viewOf s) (now (line .entry)) (blank (length (now (lent .entry)))))) (now (out .entry)) at (now (out .exit)) o ⌝ }
 {
     let r = machine::line(s, line, lent);
     say(r, lent, out, at)
@@ -57,7 +57,7 @@ fn obey_line(s: State, line: &[u8], lent: &mut [u8], out: &mut [u8], at: usize) 
 
 fn obey_write(s: State, lent: &mut [u8], out: &mut [u8], at: usize) -> Obeyed
     requires { ⌜ at + 2 * length (now lent) + 7 ≤ length (now out) ⌝ }
-    ensures { λ o. ⌜ Answers (Obey.lent (imageAnswer (viewOf s) (now (lent .entry)))) (now (out .entry)) at (now (out .exit)) o ⌝ }
+    ensures { λ o. ⌜ Answers (Obey.lent (imageAnswer (viewOf s) (blank (length (now (lent .entry)))))) (now (out .entry)) at (now (out .exit)) o ⌝ }
 {
     let r = machine::write_image(s, lent);
     say(r, lent, out, at)
@@ -74,7 +74,7 @@ pub fn obey(
     at: usize,
 ) -> Obeyed
     requires { ⌜ (longestLine ≤ 2 * length (now bytes)) × (longestLent ≤ length (now reply)) × (at + longestAnswer ≤ length (now out)) ⌝ }
-    ensures { λ o. ⌜ Obeys (viewOf s) line (now (text .entry)) (now (reply .entry)) (now (out .entry)) at (now (out .exit)) o ⌝ }
+    ensures { λ o. ⌜ Obeys (viewOf s) line (now (text .entry)) (now (out .entry)) at (now (out .exit)) o ⌝ }
 {
     match parse(text, bytes) {
         Directive::Line { count, length } => obey_line(

@@ -23,6 +23,7 @@ use Rattle.model.specs.Ascii.{ascii}
 use lib.Seq.{take-append-seam, length-take-le, take-all}
 use native.Mathlib.Decide.{decLt}
 use Rattle.model.specs.Trace.{printed}
+use Rattle.lines.proofs.Lent.{Shown, shown, shown-alike, text-answered}
 
 -- what is seen of an outcome: the state, and what is printed
 pub record Seen : Type 0 where
@@ -45,43 +46,18 @@ refusal-alone st l b h = rw (long b h)
 -- an answer prints its text
 pub printed-answered : (st : State) (t b : List ℕ) → printed (answered st t b) ≡ t
 unfolding printed
-printed-answered st t b = take-append-seam t (drop (length t) b)
+printed-answered st t b = text-answered t b
 
-carried : (st : State) (r : Reading) (b c : List ℕ) → seen (carriedOut st r b) ≡ seen (carriedOut st r c)
-unfolding carriedOut
-carried st unknown b c = rw (printed-answered st [] b, printed-answered st [] c)
-carried st malformed b c = rw (printed-answered st [] b, printed-answered st [] c)
-carried st beyond b c = rw (printed-answered st [] b, printed-answered st [] c)
-carried st (asks r) b c =
-    let m = st .volatile in
-    ap (λ (t : List ℕ). record { state = next st m r; text = t }) (printed-answered (next st m r) (reply st m r) b ∙ sym (printed-answered (next st m r) (reply st m r) c))
-
-pub printed-refused : (st : State) (n : ℕ) (b : List ℕ) → eqb n 0 ≡ false → printed (refused st n b) ≡ ascii "E " ++ (decimal n ++ ascii "\n")
+-- what is printed is told by the number and what was written
+seen-shown : {o p : Outcome} → shown o ≡ shown p → seen o ≡ seen p
 unfolding printed
-printed-refused st n b h = rw (h, printed)
-
--- one number, and where it is 0 one reading, are seen alike, whatever is lent
-judged-alike : (st : State) (n : ℕ) (r q : Reading) (b c : List ℕ) → (n ≡ 0 → r ≡ q) → seen (judged st n r b) ≡ seen (judged st n q c)
-judged-alike st n r q b c e =
-    ⊎-elim
-    (λ h. rw (judged-taken st n r b h, judged-taken st n q c h, e (eqb-true n 0 h)) (carried st q b c))
-    (λ h. rw (judged-refused st n r b h, judged-refused st n q c h, printed-refused (withError st n) n b h, printed-refused (withError st n) n c h) refl)
-    (either (eqb n 0))
+seen-shown e = ap {B = Seen} (λ (s : Shown). record { state = s .state; text = elim (eqb (s .number) 0) [ true ↦ s .text | false ↦ ascii "E " ++ (decimal (s .number) ++ ascii "\n") ] }) e
 
 -- ---- the two laws
 
--- two lines of one number and one reading, with long buffers
-alike : (st : State) (l k b c : List ℕ) → refusal st l b ≡ refusal st k c → (refusal st k c ≡ 0 → reading l ≡ reading k) →
-    seen (stepped st l b) ≡ seen (stepped st k c)
-alike st l k b c e r =
-    ⊎-elim
-    (λ h. rw (step-fine st l b h, step-fine st k c h, e) (judged-alike st (refusal st k c) (reading l) (reading k) b c r))
-    (λ h. rw (step-ill st l b h, step-ill st k c h, printed-refused st 1 b refl, printed-refused st 1 c refl) refl)
-    (either (wellFormed st))
-
 -- what the lent buffer holds does not show
 pub any-buffer : (st : State) (l b c : List ℕ) → bufferLimit ≤ length b → bufferLimit ≤ length c → seen (stepped st l b) ≡ seen (stepped st l c)
-any-buffer st l b c h k = alike st l l b c (refusal-alone st l b h ∙ sym (refusal-alone st l c k)) (λ z. refl)
+any-buffer st l b c h k = seen-shown (shown-alike st l l b c (refusal-alone st l b h ∙ sym (refusal-alone st l c k)) (λ z. refl))
 
 too-long : (st : State) (l b : List ℕ) → bufferLimit ≤ length b → lineLimit < length l → refusal st l b ≡ 3
 unfolding first unreadable
@@ -91,9 +67,9 @@ too-long st l b h k = refusal-alone st l b h ∙ rw (lt-ltb lineLimit (length l)
 pub clipped : (st : State) (l b : List ℕ) → bufferLimit ≤ length b → seen (stepped st (take (suc lineLimit) l) b) ≡ seen (stepped st l b)
 clipped st l b h =
     elim (decLt lineLimit (length l)) [
-      | yes k ↦ alike st (take (suc lineLimit) l) l b b
+      | yes k ↦ seen-shown (shown-alike st (take (suc lineLimit) l) l b b
           (too-long st (take (suc lineLimit) l) b h (rw (length-take-le (suc lineLimit) l k) (omega arith)) ∙ sym (too-long st l b h k))
-          (λ z. absurd (omega (arith, z, too-long st l b h k)))
+          (λ z. absurd (omega (arith, z, too-long st l b h k))))
       | no k ↦ ap (λ (t : List ℕ). seen (stepped st t b)) (take-all (suc lineLimit) l (omega arith))
     ]
 

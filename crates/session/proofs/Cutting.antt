@@ -1,15 +1,11 @@
 -- Laws of the bytes that are held.
 use Prim.Native.Nat.{ℕ, suc, _+_, _≤_, _<_}
-use mathlib.Core.Path.{_≡_, refl, sym, ap, _∙_}
-use mathlib.Core.List.{List, [], _∷_, _++_, append-assoc}
+use mathlib.Core.Path.{_≡_, sym, ap, _∙_}
+use mathlib.Core.List.{List, _++_, append-assoc}
 use native.Mathlib.Omega.{arith}
 use lib.ListN.{length, take, set, getD, length-append}
 use lib.Seq.{take-suc, take-suc-set, take-append-add, take-all}
 use Rattle.session.specs.Feed.{enough}
-
-pub append-nil : (l : List ℕ) → l ++ [] ≡ l
-append-nil [] = refl
-append-nil (x ∷ l) = ap (λ (t : List ℕ). x ∷ t) (append-nil l)
 
 -- one byte more is held
 pub held-more : (bytes held part : List ℕ) (n i : ℕ) → n < length bytes → i < length part → take n bytes ≡ held ++ take i part →

@@ -1,7 +1,6 @@
 pub mod Buffer
 pub mod Whole
 pub mod Cutting
-pub mod Lines
 pub mod Rest
 pub mod Answering
 pub mod Running

@@ -1,14 +1,13 @@
 -- The rest of a buffer: lent from a place on, and put back.
 use Prim.Native.Nat.{ℕ, _+_, _-_, _≤_}
 use mathlib.Core.Path.{_≡_, refl, sym, ap, _∙_}
-use mathlib.Core.List.{List, [], _++_, append-assoc}
+use mathlib.Core.List.{List, [], _++_, append-assoc, append-nil}
 use native.Mathlib.Omega.{arith}
 use lib.ListN.{length, take, drop, length-append, length-take, length-drop, drop-of-length-le}
 use lib.Seq.{drop-drop, drop-at, take-all, take-append-seam, drop-append-seam, length-take-le}
 use borrow.Rule.Slice.PartMut.{putMid, take-put}
 use Rattle.model.specs.Machine.{written}
 use Rattle.reply.specs.Lines.{Replied}
-use Rattle.session.proofs.Cutting.{append-nil}
 
 -- what is lent of a buffer from place w on, and the buffer once y is put back there
 abbrev pub rest : List ℕ → ℕ → List ℕ
@@ -44,15 +43,18 @@ module _ (out c : List ℕ) (w : ℕ) (inside : w ≤ length out) where
 
 -- ---- one text behind another
 
+-- the text of a reply stands first in the buffer
+pub replied-first : {text before after : List ℕ} {n : ℕ} → Replied text before after n → take n after ≡ text
+replied-first {text} {before} p = rw (p .bytes, p .count-is) (take-append-seam text (drop (length text) before))
+
 pub replied-more : (T t out₀ out y : List ℕ) (w n : ℕ) → Replied T out₀ out w → w ≤ length out₀ → length out ≡ length out₀ →
     Replied t (rest out w) y n → Replied (T ++ t) out₀ (withRest out w y) (w + n)
 replied-more T t out₀ out y w n a h long b =
-    let front : take w out ≡ T = rw (a .bytes, a .count-is) (take-append-seam T (drop (length T) out₀)) in
     let back : drop w out ≡ drop (length T) out₀ = rw (a .bytes, a .count-is) (drop-append-seam T (drop (length T) out₀)) in
     let ey : y ≡ t ++ drop (length t) (drop (length T) out₀) = b .bytes ∙ rw (rest-is out w, back) refl in
     record {
       count-is = rw (length-append T t) (omega (arith, a .count-is, b .count-is));
-      bytes = rw (put-rest out y w, front, ey, length-append T t, append-assoc, drop-drop (length t) (length T) out₀) refl;
+      bytes = rw (put-rest out y w, replied-first a, ey, length-append T t, append-assoc, drop-drop (length t) (length T) out₀) refl;
     }
 
 pub written-long : (t b : List ℕ) → length t ≤ length b → length (written t b) ≡ length b

@@ -1,39 +1,32 @@
 -- A block on the way: what was answered up to a place, one line more, and where it stops.
-use Prim.Native.Nat.{ℕ, zero, suc, _+_, _-_, _≤_, _<_}
+use Prim.Native.Nat.{ℕ, suc, _+_, _-_, _≤_, _<_}
 use mathlib.Core.Path.{_≡_, refl, sym, ap, _∙_}
-use mathlib.Core.List.{List, [], _∷_, _++_}
+use mathlib.Core.List.{List, [], _∷_, _++_, append-nil}
 use native.Mathlib.Omega.{arith}
-use native.Mathlib.Nat.{zero-add, suc-add}
 use native.Mathlib.Decide.{decLt}
 use lib.ListN.{length, take, drop, length-take, length-drop}
-use lib.Seq.{take-all}
+use lib.Seq.{take-all, take-add}
 use Rattle.model.specs.declared.State.{State as StoredState}
 use Rattle.model.specs.Limits.{bufferLimit}
 use Rattle.model.specs.Memory.{State}
 use Rattle.model.specs.Stored.{FineState, stateOf}
 use Rattle.lines.specs.Before.{before}
 use Rattle.session.specs.declared.cut.Kept.{Kept}
-use Rattle.session.specs.Feed.{Fed, fed, ended, said, outcome, enough, holding, printing, Keeps}
+use Rattle.lines.specs.Feed.{holding, printing}
+use Rattle.lines.proofs.Feeding.{begun, fed-nothing, fed-append, fed-ended, fed-held}
+use Rattle.session.specs.Feed.{Fed, answering, fed, ended, said, outcome, enough, Keeps}
 use Rattle.session.specs.Blocks.{Answers, Run, Runs, Feeds, Ends, heldOf}
 use Rattle.session.specs.declared.feed.Session.{Session}
 use Rattle.session.specs.declared.run.Ran.{Ran}
 use Rattle.model.specs.Lists.{none?}
-use Rattle.session.proofs.Cutting.{append-nil}
 use Rattle.session.proofs.Rest.{rest, withRest, rest-long, written-long, replied-more}
-use Rattle.session.proofs.Whole.{fed-append, said-clipped, state-clipped}
-use Rattle.session.proofs.Lines.{begun, fed-nothing, fed-ended, fed-held}
+use Rattle.session.proofs.Whole.{said-clipped, state-clipped}
 
 -- ---- the run over a block
 
--- as many more bytes
-take-more : (l : List ℕ) (k n : ℕ) → k ≤ length l → take (k + n) l ≡ take k l ++ take n (drop k l)
-take-more l zero n h = ap (λ (j : ℕ). take j l) (zero-add n)
-take-more [] (suc k) n h = absurd (omega arith)
-take-more (x ∷ l) (suc k) n h = ap (λ (j : ℕ). take j (x ∷ l)) (suc-add k n) ∙ ap (λ (t : List ℕ). x ∷ t) (take-more l k n (omega arith))
-
 pub run-start : (s : StoredState) (block out : List ℕ) → FineState s → Run (stateOf s) block out out s 0 0
 run-start s block out f =
-    let e = fed-nothing (stateOf s) [] in
+    let e = fed-nothing answering (stateOf s) [] in
     record {
       within = omega arith;
       fine = f;
@@ -47,7 +40,7 @@ run-start s block out f =
 more : (st₀ : State) (block : List ℕ) (at n : ℕ) (st : State) → at ≤ length block → fed st₀ [] (take at block) .held ≡ holding st [] →
     fed st₀ [] (take (at + n) block) ≡ printing (fed st₀ [] (take at block) .output) (fed st [] (take n (drop at block)))
 more st₀ block at n st h e =
-    ap (fed st₀ []) (take-more block at n h) ∙ fed-append (take at block) st₀ [] (take n (drop at block)) ∙ rw e refl
+    ap (fed st₀ []) (take-add at n block) ∙ fed-append answering (take at block) st₀ [] (take n (drop at block)) ∙ rw e refl
 
 -- the line from a place on
 abbrev pub lineAt : List ℕ → ℕ → List ℕ
@@ -64,7 +57,7 @@ module _ (st₀ : State) (block out₀ out : List ℕ) (s : StoredState) (at w :
       let place : end + 1 ≡ at + suc n = omega arith in
       ap (λ (k : ℕ). fed st₀ [] (take k block)) place
       ∙ more st₀ block at (suc n) st (run .within) (run .held)
-      ∙ ap (printing (fed st₀ [] (take at block) .output)) (fed-ended (drop at block) st [] (rw (length-drop at block) (omega arith)) ∙ rw (said-clipped st (lineAt block at), state-clipped st (lineAt block at)) refl)
+      ∙ ap (printing (fed st₀ [] (take at block) .output)) (fed-ended answering (drop at block) st [] (rw (length-drop at block) (omega arith)) ∙ rw (said-clipped st (lineAt block at), state-clipped st (lineAt block at)) refl)
 
   -- a line is answered
   pub run-turn : (end : ℕ) → end ≡ at + before (drop at block) → end < length block → (line y : List ℕ) (next : StoredState) (n : ℕ) → line ≡ lineAt block at →
@@ -86,7 +79,7 @@ module _ (st₀ : State) (block out₀ out : List ℕ) (s : StoredState) (at w :
 
   -- where nothing was used, nothing was answered
   run-none : at ≡ 0 → w ≡ 0
-  run-none z = run .puts .count-is ∙ ap (λ (x : Fed). length (x .output)) (ap (λ (j : ℕ). fed st₀ [] (take j block)) z ∙ fed-nothing st₀ [])
+  run-none z = run .puts .count-is ∙ ap (λ (x : Fed). length (x .output)) (ap (λ (j : ℕ). fed st₀ [] (take j block)) z ∙ fed-nothing answering st₀ [])
 
 -- ---- what a run leaves
 
@@ -115,7 +108,7 @@ module _ (s₀ : StoredState) (block out₀ out : List ℕ) (r : Ran) (runs : Ru
       let f : fed st₀ [] (take end block) ≡ printing (fed st₀ [] (take at block) .output) (record { held = holding st (take enough (drop at block)); output = [] }) =
       ap (λ (j : ℕ). fed st₀ [] (take j block)) e
       ∙ more st₀ block at (before (drop at block)) st (run .within) (run .held)
-      ∙ ap (printing (fed st₀ [] (take at block) .output)) (ap (fed st []) (take-all (before (drop at block)) (drop at block) (omega arith)) ∙ fed-held (drop at block) st [] (omega arith)) in
+      ∙ ap (printing (fed st₀ [] (take at block) .output)) (ap (fed st []) (take-all (before (drop at block)) (drop at block) (omega arith)) ∙ fed-held answering (drop at block) st [] (omega arith)) in
       record {
         within = omega arith;
         moves = λ m. omega arith;
@@ -177,8 +170,8 @@ held-ends s block b d end k next n nothing few e h keeps a none =
     let after : end + 1 ≡ suc (before block) = omega arith in
     let clip : take enough l ≡ l = take-all enough l short in
     let f : fed st l (take (end + 1) block) ≡ record { held = holding (outcome st (take enough (l ++ take end block)) .state) []; output = said st (take enough (l ++ take end block)) } =
-    ap (λ (j : ℕ). fed st l (take j block)) after ∙ ap (λ (t : List ℕ). fed st t (take (suc (before block)) block)) (sym clip) ∙ fed-ended block st l (omega arith)
-    ∙ ap (λ (j : ℕ). begun (outcome st (take enough (l ++ take j block)) .state) (said st (take enough (l ++ take j block)))) (sym place) in
+    ap (λ (j : ℕ). fed st l (take j block)) after ∙ ap (λ (t : List ℕ). fed st t (take (suc (before block)) block)) (sym clip) ∙ fed-ended answering block st l (omega arith)
+    ∙ ap (λ (j : ℕ). begun answering (outcome st (take enough (l ++ take j block)) .state) (said st (take enough (l ++ take j block)))) (sym place) in
     record {
       within = omega arith;
       moves = λ m. omega arith;
@@ -200,7 +193,7 @@ held-on s block b end k fine few e h keeps =
     let all : take end block ≡ block = take-all end block (omega arith) in
     let clip : take enough l ≡ l = take-all enough l short in
     let f : fed st l (take end block) ≡ record { held = holding st (take enough (l ++ block)); output = [] } =
-    ap (fed st l) all ∙ ap (λ (t : List ℕ). fed st t block) (sym clip) ∙ fed-held block st l (omega arith) in
+    ap (fed st l) all ∙ ap (λ (t : List ℕ). fed st t block) (sym clip) ∙ fed-held answering block st l (omega arith) in
     record {
       within = omega arith;
       moves = λ m. omega arith;

@@ -12,7 +12,8 @@ use Rattle.model.specs.Machine.{startFactory}
 use Rattle.model.specs.Stored.{FineState, stateOf}
 use Rattle.reply.specs.Lines.{Replied}
 use Rattle.lines.specs.Before.{before}
-use Rattle.session.specs.Feed.{fed, ended, said, outcome, enough, holding, Held}
+use Rattle.lines.specs.Feed.{holding}
+use Rattle.session.specs.Feed.{fed, ended, said, outcome, enough, Held}
 use Rattle.session.specs.declared.feed.Session.{Session}
 use Rattle.session.specs.declared.feed.Fed.{Fed as StoredFed}
 use Rattle.session.specs.declared.run.Ran.{Ran}

@@ -1,30 +1,23 @@
--- `run`: the buffers keep their lengths, the session stays fine, and the turns fall.
+-- `run`: the buffers keep their lengths, the session goes from block to block, and the turns fall.
 use Prim.Native.Nat.{_≤_}
 use mathlib.Core.Path.{_≡_, sym}
 use native.Mathlib.Omega.{arith}
 use borrow.Author.Needs.{needs}
 use lib.ListN.{length}
 use lib.Seq.{length-take-le}
-use Rattle.engine.specs.Fine.{Fine}
-use Rattle.session.specs.Feed.{enough}
+use Rattle.session.proofs.Rest.{replied-first}
+use Rattle.console.specs.Serve.{Between}
 use Rattle.console.proofs.run.Statement.{statement}
 use Rattle.console.proofs.run.Tie as tie
 use Rattle.console.proofs.run.Reads as reads
 use Rattle.console.proofs.run.Lts as lts
-use Rattle.console.proofs.serve.Reads as serve-reads
-use Rattle.io.proofs.count.Reads as count-reads
-use Rattle.io.proofs.large_buffer.Reads as large-buffer-reads
-use Rattle.io.proofs.write_all.Reads as write-all-reads
-use Rattle.libc.proofs.read.Reads as read-reads
-use Rattle.session.proofs.feed.begin.Reads as begin-reads
-use Rattle.session.proofs.feed.finish.Reads as finish-reads
 
 abbrev Inv-loop : tie.InvT-loop
-Inv-loop input₀ output₀ session₀ turns₀ t9 t10 input output session turns =
-    (65536 ≡ length input) × (65536 ≡ length output) × Fine (session .state) × (session .held .count ≤ enough)
+Inv-loop input₀ output₀ session₀ turns₀ t9 input output session turns =
+    (65536 ≡ length input) × (65536 ≡ length output) × Between session
 
 abbrev μ-loop : tie.MeasureT-loop
-μ-loop input₀ output₀ session₀ turns₀ t9 t10 input output session turns = turns
+μ-loop input₀ output₀ session₀ turns₀ t9 input output session turns = turns
 
 large-buffer-requires : tie.Need-large-buffer-requires Inv-loop μ-loop
 large-buffer-requires c κs = search needs
@@ -36,7 +29,8 @@ begin-requires : tie.Need-begin-requires Inv-loop μ-loop
 begin-requires c κs = search needs
 
 loop-holds : tie.Need-loop-holds Inv-loop μ-loop
-loop-holds c = (c .before .before .large-buffer .ensures, c .before .large-buffer2 .ensures, c .begin .ensures .fine, c .begin .ensures .few)
+loop-holds c =
+    (c .before .before .large-buffer .ensures, c .before .large-buffer2 .ensures, record { fine = c .begin .ensures .fine; few = c .begin .ensures .few })
 
 slice-aggregate-read : tie.Need-slice-aggregate-read Inv-loop μ-loop
 slice-aggregate-read c = search needs
@@ -69,13 +63,12 @@ slice-aggregate-serve-2 : tie.Need-slice-aggregate-serve-2 Inv-loop μ-loop
 slice-aggregate-serve-2 c = search needs
 
 serve-requires : tie.Need-serve-requires Inv-loop μ-loop
-serve-requires c κs = let l = c .before .before .before .before .before .before .before .before .before .before .loop in ((l .inv .2, l .inv .3), omega (arith, l .inv .1))
+serve-requires c κs =
+    let l = c .before .before .before .before .before .before .before .before .before .before .loop in
+    (l .inv .2, omega (arith, l .inv .1))
 
-slice-aggregate-write-all-2 : tie.Need-slice-aggregate-write-all-2 Inv-loop μ-loop
-slice-aggregate-write-all-2 c = search needs
-
-write-all-requires-2 : tie.Need-write-all-requires-2 Inv-loop μ-loop
-write-all-requires-2 c κs = search needs
+complain-of-output-requires : tie.Need-complain-of-output-requires Inv-loop μ-loop
+complain-of-output-requires c κs = search needs
 
 returns-2 : tie.Need-returns-2 Inv-loop μ-loop
 returns-2 c = search needs
@@ -87,29 +80,37 @@ loop-less : tie.Need-loop-less Inv-loop μ-loop
 loop-less c = search needs
 
 loop-again : tie.Need-loop-again Inv-loop μ-loop
-loop-again c = (search needs, search needs, c .before .before .before .before .serve .ensures .0, c .before .before .before .before .serve .ensures .1)
+loop-again c = (search needs, search needs, c .before .before .before .before .serve .ensures .between)
+
+-- the last answer lies in its buffer
+written-within : (k : tie.After-finish Inv-loop μ-loop) → k .finish .result ≤ length (k .finish .last .1 .0)
+written-within k =
+    let e : 65536 ≡ length (k .finish .last .1 .0) = search needs in
+    omega (arith, e, k .finish .ensures .room, k .before .before .before .loop .inv .1)
 
 slice-aggregate-finish : tie.Need-slice-aggregate-finish Inv-loop μ-loop
 slice-aggregate-finish c = search needs
 
 finish-requires : tie.Need-finish-requires Inv-loop μ-loop
-finish-requires c κs = let l = c .before .before .loop in (l .inv .2, (l .inv .3, omega (arith, l .inv .1)))
+finish-requires c κs = let l = c .before .before .loop in (l .inv .2 .fine, (l .inv .2 .few, omega (arith, l .inv .1)))
 
 array-share-prefix-output : tie.Need-array-share-prefix-output Inv-loop μ-loop
-array-share-prefix-output c =
-    let e : 65536 ≡ length (c .before .finish .last .1 .0) = search needs in
-    omega (arith, e, c .before .finish .ensures .room, c .before .before .before .before .loop .inv .1)
+array-share-prefix-output c = written-within (c .before)
 
-slice-aggregate-write-all-3 : tie.Need-slice-aggregate-write-all-3 Inv-loop μ-loop
-slice-aggregate-write-all-3 c =
-    let e : 65536 ≡ length (c .before .before .finish .last .1 .0) = search needs in
-    sym (length-take-le _ _ (omega (arith, e, c .before .before .finish .ensures .room, c .before .before .before .before .before .loop .inv .1)))
+slice-aggregate-write-last : tie.Need-slice-aggregate-write-last Inv-loop μ-loop
+slice-aggregate-write-last c = sym (length-take-le _ _ (written-within (c .before .before)))
 
-write-all-requires-3 : tie.Need-write-all-requires-3 Inv-loop μ-loop
-write-all-requires-3 c κs = search needs
+write-last-requires : tie.Need-write-last-requires Inv-loop μ-loop
+write-last-requires c κs = replied-first (c .before .before .finish .ensures .puts)
+
+complain-of-output-requires-2 : tie.Need-complain-of-output-requires-2 Inv-loop μ-loop
+complain-of-output-requires-2 c κs = search needs
 
 returns-3 : tie.Need-returns-3 Inv-loop μ-loop
 returns-3 c = search needs
+
+returns-4 : tie.Need-returns-4 Inv-loop μ-loop
+returns-4 c = search needs
 
 pub run-spec : {M : Type 1} → statement M
 run-spec =
@@ -132,8 +133,7 @@ run-spec =
     slice-aggregate-serve
     slice-aggregate-serve-2
     serve-requires
-    slice-aggregate-write-all-2
-    write-all-requires-2
+    complain-of-output-requires
     returns-2
     sub-turns
     loop-less
@@ -141,6 +141,8 @@ run-spec =
     slice-aggregate-finish
     finish-requires
     array-share-prefix-output
-    slice-aggregate-write-all-3
-    write-all-requires-3
-    returns-3)
+    slice-aggregate-write-last
+    write-last-requires
+    complain-of-output-requires-2
+    returns-3
+    returns-4)

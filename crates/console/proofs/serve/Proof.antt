@@ -1,48 +1,55 @@
--- `serve`: each turn uses some of the block, and the session stays fine.
-use Prim.Native.Nat.{_+_, _-_, _≤_, _<_}
-use mathlib.Core.Path.{_≡_, refl, sym, _∙_}
+-- `serve`: up to each place of the block the session holds what it gives for that much of it.
+use Prim.Native.Nat.{ℕ, _+_, _-_, _≤_, _<_}
+use mathlib.Core.Path.{_≡_, refl, sym, ap, _∙_}
+use mathlib.Core.List.{List}
 use native.Mathlib.Omega.{arith}
 use borrow.Author.Needs.{needs}
-use lib.ListN.{length, take, drop, length-take, length-drop}
-use lib.Seq.{length-take-le}
-use Rattle.engine.specs.Fine.{Fine}
-use Rattle.session.specs.Feed.{enough}
+use lib.ListN.{length, take}
+use lib.Seq.{length-take-le, take-all}
+use Rattle.model.proofs.Basics.{true-false}
+use Rattle.lines.proofs.Places.{rest-long}
+use Rattle.session.specs.Blocks.{heldOf}
+use Rattle.console.specs.Serve.{given, Between}
+use Rattle.console.proofs.Serving.{given-nothing, part-handed, part-held}
 use Rattle.console.proofs.serve.Statement.{statement}
 use Rattle.console.proofs.serve.Tie as tie
 use Rattle.console.proofs.serve.Reads as reads
 use Rattle.console.proofs.serve.Lts as lts
-use Rattle.io.proofs.write_all.Reads as write-all-reads
+use Rattle.console.proofs.write_answers.Reads as write-answers-reads
 use Rattle.session.proofs.feed.feed.Reads as feed-reads
 
 abbrev Inv-loop : tie.InvT-loop
 Inv-loop block out₀ session₀ at₀ out session at =
-    (at ≤ length block) × Fine (session .state) × (session .held .count ≤ enough) × (length out ≡ length out₀)
+    (at ≤ length block) × Between session × (length out ≡ length out₀) × (heldOf session ≡ given session₀ (take at block) .held)
 
 abbrev μ-loop : tie.MeasureT-loop
 μ-loop block out₀ session₀ at₀ out session at = length block - at
 
--- what a block's part was used for
-part-long : (c : tie.After-feed Inv-loop μ-loop) → let l = c .before .before .before .before .loop in let block = c .before .before .before .before .before .before .before .args .block .now in
-    length (take (length block - l .at) (drop (l .at) block)) ≡ length block - l .at
-part-long c =
-    let l = c .before .before .before .before .loop in
-    let block = c .before .before .before .before .before .before .before .args .block .now in
-    omega (arith, length-take (length block - l .at) (drop (l .at) block), length-drop (l .at) block)
+-- the part that was fed
+module _ (k : tie.After-feed Inv-loop μ-loop) where
+  abbrev at-loop : tie.At-loop Inv-loop μ-loop
+  at-loop = k .before .before .before .before
 
-used : (c : tie.After-feed Inv-loop μ-loop) → c .before .before .before .before .loop .at + c .feed .result .used ≤ length (c .before .before .before .before .before .before .before .args .block .now)
-used c = omega (arith, c .feed .ensures .within, part-long c, c .before .before .before .before .loop .inv .0)
+  abbrev start : tie.Start Inv-loop μ-loop
+  start = at-loop .before .before .before
 
-moved : (c : tie.After-feed Inv-loop μ-loop) → 0 < c .feed .result .used
-moved c = c .feed .ensures .moves (omega (arith, part-long c, c .before .before .before .loop-test .taken))
+  abbrev end : ℕ
+  end = at-loop .loop .at + k .feed .result .used
 
-kept-long : (c : tie.After-feed Inv-loop μ-loop) → length (c .feed .last .1 .1 .0) ≡ length (c .before .before .before .before .before .before .before .args .out .now)
-kept-long c = let e : length (c .feed .last .1 .1 .0) ≡ length (c .before .before .before .before .loop .out) = search needs in e ∙ c .before .before .before .before .loop .inv .3
+  used : end ≤ length (start .args .block .now)
+  used = omega (arith, k .feed .ensures .within, rest-long (start .args .block .now) (at-loop .loop .at), at-loop .loop .inv .0)
 
-written-within : (c : tie.After-feed Inv-loop μ-loop) → c .feed .result .written ≤ length (c .feed .last .1 .1 .0)
-written-within c = omega (arith, c .feed .ensures .room, kept-long c, c .before .before .before .before .loop .inv .3)
+  moved : 0 < k .feed .result .used
+  moved = k .feed .ensures .moves (omega (arith, rest-long (start .args .block .now) (at-loop .loop .at), k .before .before .before .loop-test .taken))
+
+  kept-long : length (k .feed .last .1 .1 .0) ≡ length (start .args .out .now)
+  kept-long = let e : length (k .feed .last .1 .1 .0) ≡ length (at-loop .loop .out) = search needs in e ∙ at-loop .loop .inv .2
+
+  written-within : k .feed .result .written ≤ length (k .feed .last .1 .1 .0)
+  written-within = omega (arith, k .feed .ensures .room, kept-long, at-loop .loop .inv .2)
 
 loop-holds : tie.Need-loop-holds Inv-loop μ-loop
-loop-holds c = (omega arith, c .before .before .pre .0 .0, c .before .before .pre .0 .1, refl)
+loop-holds c = (omega arith, c .before .before .pre .0, refl, given-nothing (c .before .before .args .s))
 
 sub-feed : tie.Need-sub-feed Inv-loop μ-loop
 sub-feed c = search needs
@@ -56,38 +63,65 @@ part-feed-end c = search needs
 feed-requires : tie.Need-feed-requires Inv-loop μ-loop
 feed-requires c κs =
     let l = c .before .before .before .loop in
-    (l .inv .1, (l .inv .2, omega (arith, l .inv .3, c .before .before .before .before .before .before .pre .1)))
+    (l .inv .1 .fine, (l .inv .1 .few, omega (arith, l .inv .2, c .before .before .before .before .before .before .pre .1)))
 
-add-at : tie.Need-add-at Inv-loop μ-loop
-add-at c =
-    record { fits = omega (arith, used (c .before .before .before .before), c .before .before .before .before .before .before .before .before .before .before .before .good .1 .0 .0) }
+add-end : tie.Need-add-end Inv-loop μ-loop
+add-end c = let k = c .before .before .before in record { fits = omega (arith, used k, start k .good .1 .0 .0) }
 
-slice-reshare-prefix-write-all : tie.Need-slice-reshare-prefix-write-all Inv-loop μ-loop
-slice-reshare-prefix-write-all c = written-within (c .before .before .before .before)
+sub-write-answers : tie.Need-sub-write-answers Inv-loop μ-loop
+sub-write-answers c = search needs
 
-slice-aggregate-write-all : tie.Need-slice-aggregate-write-all Inv-loop μ-loop
-slice-aggregate-write-all c = sym (length-take-le _ _ (written-within (c .before .before .before .before .before)))
+part-write-answers-start : tie.Need-part-write-answers-start Inv-loop μ-loop
+part-write-answers-start c = omega (arith, used (c .before .before .before))
 
-write-all-requires : tie.Need-write-all-requires Inv-loop μ-loop
-write-all-requires c κs = search needs
+part-write-answers-end : tie.Need-part-write-answers-end Inv-loop μ-loop
+part-write-answers-end c = omega (arith, used (c .before .before .before))
+
+slice-reshare-prefix-write-answers : tie.Need-slice-reshare-prefix-write-answers Inv-loop μ-loop
+slice-reshare-prefix-write-answers c = written-within (c .before .before .before .before)
+
+slice-aggregate-write-answers : tie.Need-slice-aggregate-write-answers Inv-loop μ-loop
+slice-aggregate-write-answers c = sym (length-take-le _ _ (written-within (c .before .before .before .before .before)))
+
+write-answers-requires : tie.Need-write-answers-requires Inv-loop μ-loop
+write-answers-requires c κs =
+    let k = c .before .before .before .before .before in
+    let l = at-loop k .loop in
+    part-handed (start k .args .s) (start k .args .block .now) (l .session) (l .at) (l .inv .3) _ _ (k .feed .result) (k .feed .ensures) (end k) refl
 
 same-length : tie.Need-same-length Inv-loop μ-loop
 same-length c = search needs
 
 returns : tie.Need-returns Inv-loop μ-loop
-returns c = let f = c .before .before .before .before .before .before .before .feed .ensures in (f .fine, f .few)
+returns c =
+    let l = at-loop (c .before .before .before .before .before .before .before) .loop in
+    record { held = λ e. true-false (sym e); between = l .inv .1 }
 
 loop-less : tie.Need-loop-less Inv-loop μ-loop
-loop-less c = omega (arith, used (c .before .before .before .before .before .before .before), moved (c .before .before .before .before .before .before .before))
+loop-less c = let k = c .before .before .before .before .before .before .before .before in omega (arith, used k, moved k)
 
 loop-again : tie.Need-loop-again Inv-loop μ-loop
-loop-again c = let f = c .before .before .before .before .before .before .before .feed .ensures in (omega (arith, used (c .before .before .before .before .before .before .before)), f .fine, f .few, kept-long (c .before .before .before .before .before .before .before))
+loop-again c =
+    let k = c .before .before .before .before .before .before .before .before in
+    let l = at-loop k .loop in
+    let f = k .feed .ensures in (
+      used k,
+      record { fine = f .fine; few = f .few },
+      kept-long k,
+      part-held (start k .args .s) (start k .args .block .now) (l .session) (l .at) (l .inv .3) _ _ (k .feed .result) f (end k) refl,
+    )
 
 same-length-2 : tie.Need-same-length-2 Inv-loop μ-loop
 same-length-2 c = search needs
 
 returns-2 : tie.Need-returns-2 Inv-loop μ-loop
-returns-2 c = search needs
+returns-2 c =
+    let l = c .before .loop in
+    let start = c .before .before .before .before in
+    record {
+      held = λ e. l .inv .3 ∙ ap (λ (t : List ℕ). given (start .args .s) t .held) (take-all (l .at) (start .args .block .now) (c .loop-test .left));
+      between = l .inv .1;
+    }
 
 pub serve-spec : {M : Type 1} → statement M
 serve-spec =
@@ -100,10 +134,13 @@ serve-spec =
     part-feed-start
     part-feed-end
     feed-requires
-    add-at
-    slice-reshare-prefix-write-all
-    slice-aggregate-write-all
-    write-all-requires
+    add-end
+    sub-write-answers
+    part-write-answers-start
+    part-write-answers-end
+    slice-reshare-prefix-write-answers
+    slice-aggregate-write-answers
+    write-answers-requires
     same-length
     returns
     loop-less

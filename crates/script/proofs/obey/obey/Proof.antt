@@ -1,14 +1,14 @@
 use Prim.Native.Nat.{_≤_}
 use mathlib.Core.Path.{refl, sym, ap}
 use native.Mathlib.Omega.{arith}
-use lib.ListN.{length}
+use lib.ListN.{length, take}
 use lib.Seq.{length-take-le}
 use borrow.Author.Needs.{needs}
 use Rattle.script.specs.Directive.{longestLent}
 use Rattle.model.specs.Stored.{View, viewOf}
 use Rattle.script.specs.Obey.{alone, done}
 use Rattle.script.proofs.AnswerLaws.{complaint-short}
-use Rattle.script.proofs.ObeyLaws.{answers-by, as-ordered, not-ordered}
+use Rattle.script.proofs.ObeyLaws.{answers-by, line-lent, image-lent, as-ordered, not-ordered}
 use Rattle.script.proofs.obey.obey.Statement.{statement}
 use Rattle.script.proofs.obey.obey.Tie as tie
 
@@ -116,8 +116,13 @@ same-length-3 c = search needs
 returns : tie.Need-returns
 unfolding done
 returns c =
-    let a = c .before .before .before .before .before .before .before .before .before .before .before .before .before .before .before .before .before .before .before .args in
-    as-ordered (viewOf (a .s)) (a .line) (a .text .now) (a .reply .now) (rw (c .before .before .before .before .before .before .before .before .before .count .given .1) at (c .before .before .before .before .before .before .before .before .before .before .before .before .before .parse .ensures .order)) refl (c .before .before .before .before .obey-line .ensures)
+    let k = c .before .before .before .before .before .before .before .before .before in
+    let st = k .before .before .before .before .before .before .before .before .before .before in
+    let a = st .args in
+    let n = k .count .given .0 .1 .0 in
+    let l = take (k .count .given .0 .0) (k .before .before .before .before .parse .last .1 .0) in
+    as-ordered (viewOf (a .s)) (a .line) (a .text .now) (rw (k .count .given .1) at (k .before .before .before .before .parse .ensures .order)) refl
+    (answers-by (line-lent (viewOf (a .s)) l n (a .reply .now) (omega (arith, line-bounded k .1, st .pre .1))) (c .before .before .before .before .obey-line .ensures))
 
 same-length-4 : tie.Need-same-length-4
 same-length-4 c = search needs
@@ -131,8 +136,12 @@ same-length-6 c = search needs
 returns-2 : tie.Need-returns-2
 unfolding done
 returns-2 c =
-    let a = c .before .before .before .before .before .before .before .before .before .before .before .before .before .before .before .before .before .before .args in
-    as-ordered (viewOf (a .s)) (a .line) (a .text .now) (a .reply .now) (rw (c .before .before .before .before .before .before .before .before .length .given .1) at (c .before .before .before .before .before .before .before .before .before .before .before .before .parse .ensures .order)) refl (c .before .before .before .before .obey-write .ensures)
+    let k = c .before .before .before .before .before .before .before .before in
+    let st = k .before .before .before .before .before .before .before .before .before .before in
+    let a = st .args in
+    let n = k .length .given .0 .0 in
+    as-ordered (viewOf (a .s)) (a .line) (a .text .now) (rw (k .length .given .1) at (k .before .before .before .before .parse .ensures .order)) refl
+    (answers-by (image-lent (viewOf (a .s)) n (a .reply .now) (omega (arith, write-bounded k, st .pre .1))) (c .before .before .before .before .obey-write .ensures))
 
 same-length-7 : tie.Need-same-length-7
 same-length-7 c = search needs
@@ -144,7 +153,7 @@ returns-3 : tie.Need-returns-3
 unfolding done
 returns-3 c =
     let a = c .before .before .before .before .before .before .before .before .before .before .before .before .before .before .before .args in
-    as-ordered (viewOf (a .s)) (a .line) (a .text .now) (a .reply .now) (rw (c .before .before .before .before .before .enum-told .given .1) at (c .before .before .before .before .before .before .before .before .before .parse .ensures .order)) refl
+    as-ordered (viewOf (a .s)) (a .line) (a .text .now) (rw (c .before .before .before .before .before .enum-told .given .1) at (c .before .before .before .before .before .before .before .before .before .parse .ensures .order)) refl
     (answers-by (ap alone (c .before .before .before .before .restart .ensures)) (c .before .before .say-begun .ensures))
 
 same-length-9 : tie.Need-same-length-9
@@ -157,7 +166,7 @@ returns-4 : tie.Need-returns-4
 unfolding done
 returns-4 c =
     let a = c .before .before .before .before .before .before .before .before .before .before .before .before .before .before .before .before .before .args in
-    as-ordered (viewOf (a .s)) (a .line) (a .text .now) (a .reply .now) (rw (c .before .before .before .before .before .before .before .count2 .given .1) at (c .before .before .before .before .before .before .before .before .before .before .before .parse .ensures .order)) refl
+    as-ordered (viewOf (a .s)) (a .line) (a .text .now) (rw (c .before .before .before .before .before .before .before .count2 .given .1) at (c .before .before .before .before .before .before .before .before .before .before .before .parse .ensures .order)) refl
     (answers-by (ap alone (c .before .before .before .before .start-image .ensures)) (c .before .before .say-begun2 .ensures))
 
 same-length-11 : tie.Need-same-length-11
@@ -170,7 +179,7 @@ returns-5 : tie.Need-returns-5
 unfolding done
 returns-5 c =
     let a = c .before .before .before .before .before .before .before .before .before .before .before .before .before .before .before .args in
-    as-ordered (viewOf (a .s)) (a .line) (a .text .now) (a .reply .now) (rw (c .before .before .before .before .before .enum-told2 .given .1) at (c .before .before .before .before .before .before .before .before .before .parse .ensures .order)) refl
+    as-ordered (viewOf (a .s)) (a .line) (a .text .now) (rw (c .before .before .before .before .before .enum-told2 .given .1) at (c .before .before .before .before .before .before .before .before .before .parse .ensures .order)) refl
     (answers-by (ap (λ (v : View). alone (record { state = v; number = 0 })) (c .before .before .before .before .start-factory .ensures)) (c .before .before .say-begun3 .ensures))
 
 same-length-13 : tie.Need-same-length-13
@@ -184,7 +193,7 @@ returns-6 c =
     let p = c .before .before in
     let st = c .before .before .before .before .before .before .before .before .before .before .before .before .before .before in
     let a = st .args in
-    not-ordered (viewOf (a .s)) (a .line) (a .text .now) (a .reply .now) (rw (c .before .before .before .before .enum-told3 .given .1) at (c .before .before .before .before .before .before .before .before .parse .ensures .order)) refl
+    not-ordered (viewOf (a .s)) (a .line) (a .text .now) (rw (c .before .before .before .before .enum-told3 .given .1) at (c .before .before .before .before .before .before .before .before .parse .ensures .order)) refl
     (p .put-complaint .ensures) (omega (arith, complaint-short (a .line), st .pre .2, p .put-complaint .ensures .place))
 
 pub obey-spec : {M : Type 1} → statement M

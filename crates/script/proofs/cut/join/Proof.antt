@@ -1,0 +1,30 @@
+-- `join`: what was held, and then the part.
+use borrow.Author.Needs.{needs}
+use Rattle.script.proofs.Cutting.{keeps-join}
+use Rattle.script.proofs.cut.join.Statement.{statement}
+use Rattle.script.proofs.cut.join.Tie as tie
+use Rattle.script.proofs.cut.join.Reads as reads
+use Rattle.script.proofs.cut.join.Lts as lts
+use Rattle.script.proofs.cut.keep.Reads as keep-reads
+
+-- src/cut.rt:25:9
+keep-requires : tie.Need-keep-requires
+keep-requires c κs = search needs
+
+-- src/cut.rt:26:5
+keep-requires-2 : tie.Need-keep-requires-2
+keep-requires-2 c κs = search needs
+
+-- src/cut.rt:22:1
+same-length : tie.Need-same-length
+same-length c = search needs
+
+-- src/cut.rt:22:1
+returns : tie.Need-returns
+returns c =
+    let start = c .before .before .before .before .before .before .before .before .before .before .before in
+    let k = c .before .before in
+    keeps-join (start .args .held .now) (start .args .part .now) (k .before .before .before .before .keep .ensures .0) (k .keep2 .ensures .0) (k .keep2 .ensures .1)
+
+pub join-spec : {M : Type 1} → statement M
+join-spec = tie.close (tie.spec keep-requires keep-requires-2 same-length returns)

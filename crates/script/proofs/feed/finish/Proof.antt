@@ -1,0 +1,56 @@
+-- `finish`: the line that is held, if there is one.
+use mathlib.Core.Path.{sym}
+use native.Mathlib.Omega.{arith}
+use lib.Seq.{length-take-le}
+use Rattle.script.proofs.Running.{ends-none, ends-obeyed}
+use borrow.Author.Needs.{needs}
+use Rattle.script.proofs.feed.finish.Statement.{statement}
+use Rattle.script.proofs.feed.finish.Tie as tie
+use Rattle.script.proofs.feed.finish.Reads as reads
+use Rattle.script.proofs.feed.finish.Lts as lts
+use Rattle.script.proofs.obey.obey.Reads as obey-reads
+
+-- src/feed.rt:147:9
+returns : tie.Need-returns
+returns c = let a = c .before .before .before .before .before .args in ends-none (a .s) (a .held .now) (a .out .now) (c .if1 .taken)
+
+-- src/feed.rt:150:25
+slice-aggregate-obey : tie.Need-slice-aggregate-obey
+slice-aggregate-obey c = sym (length-take-le _ _ (c .before .before .before .before .before .before .before .pre .1))
+
+-- src/feed.rt:150:9
+obey-requires : tie.Need-obey-requires
+obey-requires c κs = search needs
+
+-- src/feed.rt:140:1
+same-length : tie.Need-same-length
+same-length c = search needs
+
+-- src/feed.rt:140:1
+same-length-2 : tie.Need-same-length-2
+same-length-2 c = search needs
+
+-- src/feed.rt:140:1
+same-length-3 : tie.Need-same-length-3
+same-length-3 c = search needs
+
+-- src/feed.rt:140:1
+returns-2 : tie.Need-returns-2
+returns-2 c =
+    let k = c .before .before .before .before .before .before in
+    let st = k .before .before .before .before .before .before .before .before .before .before .before in
+    let a = st .args in
+    let long = length-take-le (a .s .held) (a .held .now) (st .pre .1) in
+    ends-obeyed (a .s) (a .held .now) (a .out .now) _ (k .obey .result) (omega (arith, long, k .before .before .before .before .before .before .if1 .left)) (k .obey .ensures)
+
+pub finish-spec : {M : Type 1} → statement M
+finish-spec =
+    tie.close
+    (tie.spec
+    returns
+    slice-aggregate-obey
+    obey-requires
+    same-length
+    same-length-2
+    same-length-3
+    returns-2)
