@@ -73,21 +73,17 @@ pub fn resultants(m: Memory, reply: &mut [u8]) -> usize
     let start = unmoved();
     let mut known = [start; MAX_SYSTEMS + 1];
     let mut at = put_fixed_resultants(reply);
+    // Lent once: a part lent anew for every walk costs a wait at each.
+    let ps = &preds[..count];
+    let xs: &[i64] = &offsets;
+    let ts: &[u8] = &turns;
     let mut i = 0;
     while i < count {
         let s = m.systems[i];
         let kind = s.kind;
-        let stop = reached_before(preds[i] as usize, i);
+        let stop = reached_before(ps[i] as usize, i);
         let before = known[stop];
-        let r = reach(
-            &offsets,
-            &turns,
-            &preds[..count],
-            stop,
-            before,
-            i + 1,
-            MAX_SYSTEMS,
-        );
+        let r = reach(xs, ts, ps, stop, before, i + 1, MAX_SYSTEMS);
         known[i + 1] = r;
         let n = put_further_reached(&mut reply[at..], s.name, group_of(kind), r);
         at += n;
