@@ -6,16 +6,15 @@ use native.Mathlib.Omega.{arith}
 use native.Mathlib.Decide.{decLt}
 use lib.IntN.{ℤ}
 use lib.ListN.{length, take, getD, set, length-set, length-take}
-use lib.Seq.{getD-take, getD-set-same, getD-set-other}
+use lib.Seq.{getD-set-same, getD-set-other}
 use Rattle.model.specs.declared.Dir.the-variants.{Px}
 use Rattle.model.specs.Pose.{origin}
 use Rattle.model.specs.Memory.{System}
 use Rattle.chains.specs.declared.frames.Reached.{Reached}
 use Rattle.chains.specs.Walk.{walkOf, walked, atFixed}
-use Rattle.chains.proofs.Laid.{framed-length}
-use Rattle.chains.proofs.Reaching.{UserPlace, walked-fixed, pred-there}
+use Rattle.chains.proofs.Reaching.{walked-fixed}
 use Rattle.reply.specs.Types.{StoredMemory}
-use Rattle.reply.proofs.ReachLaws.{FlatOf, can-walk}
+use Rattle.reply.proofs.ReachLaws.{FlatOf}
 use Rattle.reply.proofs.StoredLaws.{few}
 
 -- only to fill a place where a list has none
@@ -54,10 +53,3 @@ module _ {m : StoredMemory} {preds : List ℕ} {offsets : List ℤ} {turns : Lis
 
   pub taken : m .count ≡ length ps
   taken = omega (arith, held, flat .many, length-take (m .count) preds)
-
-  -- the predecessor of a system that is there is one of those that can be kept
-  pub pred-kept : {i : ℕ} → i < m .count → getD preds i 0 < 17
-  pred-kept {i} h =
-      let n = framed-length offsets turns ps in
-      let u : UserPlace offsets turns ps (suc i) i = record { laid = can-walk flat; is = refl; there = omega (arith, n, taken) } in
-      omega (arith, getD-take (m .count) preds i 0 h, pred-there u, n, taken, held)

@@ -1,5 +1,6 @@
 pub mod ValueLaws
 pub mod LineLaws
+pub mod FixedLaws
 pub mod ListLaws
 pub mod StoredLaws
 pub mod TurnLaws

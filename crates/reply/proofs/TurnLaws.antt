@@ -1,6 +1,6 @@
 -- The line of a place is the text of the stored system that stands there.
-use Prim.Native.Nat.{ℕ, zero, suc, _-_, _≤_, _<_}
-use mathlib.Core.Path.{_≡_, refl, ap, _∙_}
+use Prim.Native.Nat.{ℕ, zero, suc, _+_, _-_, _≤_, _<_}
+use mathlib.Core.Path.{_≡_, refl, sym, ap, _∙_}
 use mathlib.Core.Bool.{true}
 use mathlib.Core.List.{List, [], _∷_}
 use native.Mathlib.Omega.{arith}
@@ -16,6 +16,7 @@ use Rattle.model.specs.Reply.{systemLine, linkLine, enabledLine}
 use Rattle.chains.proofs.Copies.{unset}
 use Rattle.reply.specs.Types.{Group, StoredMemory}
 use Rattle.reply.specs.Lines.{systemText, atFixed, predText, linkText, enabledText}
+use Rattle.reply.proofs.LineLaws.{at-user}
 use Rattle.reply.proofs.StoredLaws.{stands-at, pred-fits}
 
 -- ---- over the systems of the definitions
@@ -54,8 +55,9 @@ enabled-at l g (suc k) = refl
 -- ---- over stored systems
 
 module _ (m : StoredMemory) (shaped : memoryShaped m ≡ true) (long : length (m .systems) ≡ 16) where
-  pub system-turn : (i : ℕ) → i < m .count → systemLine (systemsOf m) (userRef (systemsOf m) (suc i)) ≡ systemText (systemOf (getD (m .systems) i unset))
-  system-turn i h = system-at (systemsOf m) i ∙ ap systemText (stands-at m shaped long i h)
+  -- whatever a fixed system's text would be
+  pub system-turn : (a : List ℕ) (i : ℕ) → i < m .count → systemLine (systemsOf m) (userRef (systemsOf m) (suc i)) ≡ atFixed (i + 1) a (systemText (systemOf (getD (m .systems) i unset)))
+  system-turn a i h = system-at (systemsOf m) i ∙ ap systemText (stands-at m shaped long i h) ∙ sym (at-user (i + 1) a _ (λ e. omega arith))
 
   -- the stored system of a place that is a user system's
   stored-place : (p : ℕ) → p ≤ m .count → (p ≡ 0 → ⊥) → systemAt (systemsOf m) p ≡ systemOf (getD (m .systems) (p - 1) unset)
@@ -69,11 +71,12 @@ module _ (m : StoredMemory) (shaped : memoryShaped m ≡ true) (long : length (m
   enabled-turn g zero h = enabled-at (systemsOf m) g zero
   enabled-turn g (suc k) h = enabled-at (systemsOf m) g (suc k) ∙ ap (enabledText g (suc k)) (stored-place (suc k) h (λ e. omega arith))
 
-  pub link-turn : memoryFine (memoryOf m) ≡ true → (i : ℕ) → i < m .count → linkLine (systemsOf m) (userRef (systemsOf m) (suc i))
-      ≡ linkText (systemOf (getD (m .systems) i unset)) (bytesOf (getD (m .systems) (getD (m .systems) i unset .pred - 1) unset .name))
-  link-turn fine i h =
+  pub link-turn : memoryFine (memoryOf m) ≡ true → (a : List ℕ) (i : ℕ) → i < m .count → linkLine (systemsOf m) (userRef (systemsOf m) (suc i))
+      ≡ atFixed (i + 1) a (linkText (systemOf (getD (m .systems) i unset)) (bytesOf (getD (m .systems) (getD (m .systems) i unset .pred - 1) unset .name)))
+  link-turn fine a i h =
       let l = systemsOf m in
       let s = getD (m .systems) i unset in
       link-at l i
       ∙ ap (λ (t : System). linkText t (systemAt l (t .pred) .name)) (stands-at m shaped long i h)
       ∙ link-same (systemOf s) _ _ (λ n. ap (λ (t : System). t .name) (stored-place (s .pred) (pred-fits m shaped long fine i h) n))
+      ∙ sym (at-user (i + 1) a _ (λ e. omega arith))

@@ -1,4 +1,5 @@
-// The lines of the lists. A further line ends the line before it, and is written from the front of the part that it is lent.
+// The lines of the lists. A further line ends the line before it, and is written from the front of the part that it is lent. Place 0 is the fixed
+// system of the group g, whose text is constant; any other place is the user system s.
 use crate::texts::put_by_group;
 use crate::texts::put_end;
 use crate::texts::put_fixed_name;
@@ -19,58 +20,51 @@ ghost use lib.ListN.{length};
 ghost use Rattle.model.specs.Limits.{nameLimit};
 ghost use Rattle.model.specs.Memory.{fixedRef};
 ghost use Rattle.model.specs.Stored.{bytesOf, systemOf};
-ghost use Rattle.model.specs.Reply.{systemLine, linkLine, resultantLine};
+ghost use Rattle.model.specs.Reply.{systemLine, linkLine};
 ghost use Rattle.pose.specs.Poses.{Within, Quarters, reach};
 ghost use Rattle.print.specs.Over.{Wrote};
-ghost use Rattle.reply.specs.Lines.{Writable, systemText, predText, linkText, enabledText, resultantText, further, fixedLines};
+ghost use Rattle.reply.specs.Lines.{Writable, systemText, predText, linkText, enabledText, resultantText, further, atFixed};
 
 // ---- KLS?
 
-pub fn put_fixed_systems(out: &mut [u8]) -> usize
-    requires { ⌜ length (fixedLines (systemLine [])) ≤ length (now out) ⌝ }
-    ensures { λ r. ⌜ Wrote (fixedLines (systemLine [])) (now (out .entry)) 0 (now (out .exit)) r ⌝ }
+fn put_user_system(out: &mut [u8], at: usize, s: System) -> usize
+    requires { ⌜ Writable s × (at + length (systemText (systemOf s)) ≤ length (now out)) ⌝ }
+    ensures { λ r. ⌜ Wrote (systemText (systemOf s)) (now (out .entry)) at (now (out .exit)) r ⌝ }
 {
-    let i = put_text(
-        out,
-        0,
-        b"Name=ZERO Type=ZERO X=0.000000 Y=0.000000 Z=0.000000 U=0.000000 V=0.000000 W=0.000000",
-    );
-    let j = put_text(
-        out,
-        i,
-        b" \nName=PI_BASE Type=KSB(PI) X=0.000000 Y=0.000000 Z=0.000000 U=0.000000 V=0.000000 W=0.000000",
-    );
-    put_text(
-        out,
-        j,
-        b" \nName=PI_LEVELLING Type=KLD(PI) X=0.000000 Y=0.000000 Z=0.000000 U=0.000000 V=0.000000 W=0.000000",
-    )
+    let a = put_text(out, at, b"Name=");
+    let b = put_name(out, a, s.name);
+    let c = put_text(out, b, b" Type=");
+    let kind = s.kind;
+    let d = put_kind(out, c, kind);
+    put_six_values(out, d, s.offset, s.turns)
 }
 
-pub fn put_system(part: &mut [u8], s: System) -> usize
-    requires { ⌜ Writable s × (length (further (systemText (systemOf s))) ≤ length (now part)) ⌝ }
-    ensures { λ r. ⌜ Wrote (further (systemText (systemOf s))) (now (part .entry)) 0 (now (part .exit)) r ⌝ }
+pub fn put_system(out: &mut [u8], at: usize, g: Group, place: usize, s: System) -> usize
+    requires { ⌜ (0 < place → Writable s) × (at + length (atFixed place (systemLine [] (fixedRef g)) (systemText (systemOf s))) ≤ length (now out)) ⌝ }
+    ensures { λ r. ⌜ Wrote (atFixed place (systemLine [] (fixedRef g)) (systemText (systemOf s))) (now (out .entry)) at (now (out .exit)) r ⌝ }
 {
-    let a = put_text(part, 0, b" \nName=");
-    let b = put_name(part, a, s.name);
-    let c = put_text(part, b, b" Type=");
-    let kind = s.kind;
-    let d = put_kind(part, c, kind);
-    put_six_values(part, d, s.offset, s.turns)
+    if place == 0 {
+        return put_by_group(
+            out,
+            at,
+            g,
+            b"Name=ZERO Type=ZERO X=0.000000 Y=0.000000 Z=0.000000 U=0.000000 V=0.000000 W=0.000000",
+            b"Name=PI_BASE Type=KSB(PI) X=0.000000 Y=0.000000 Z=0.000000 U=0.000000 V=0.000000 W=0.000000",
+            b"Name=PI_LEVELLING Type=KLD(PI) X=0.000000 Y=0.000000 Z=0.000000 U=0.000000 V=0.000000 W=0.000000",
+        );
+    }
+    put_user_system(out, at, s)
+}
+
+pub fn put_further_system(part: &mut [u8], g: Group, place: usize, s: System) -> usize
+    requires { ⌜ (0 < place → Writable s) × (length (further (atFixed place (systemLine [] (fixedRef g)) (systemText (systemOf s)))) ≤ length (now part)) ⌝ }
+    ensures { λ r. ⌜ Wrote (further (atFixed place (systemLine [] (fixedRef g)) (systemText (systemOf s)))) (now (part .entry)) 0 (now (part .exit)) r ⌝ }
+{
+    let a = put_text(part, 0, b" \n");
+    put_system(part, a, g, place, s)
 }
 
 // ---- KLN?
-
-pub fn put_fixed_links(out: &mut [u8]) -> usize
-    requires { ⌜ length (fixedLines (linkLine [])) ≤ length (now out) ⌝ }
-    ensures { λ r. ⌜ Wrote (fixedLines (linkLine [])) (now (out .entry)) 0 (now (out .exit)) r ⌝ }
-{
-    put_text(
-        out,
-        0,
-        b"ZERO=ZERO \nPI_BASE=HEXAPOD \nPI_LEVELLING=HEXAPOD",
-    )
-}
 
 // The name of the predecessor; pred is that of the user system that it is, if it is one.
 fn put_pred(out: &mut [u8], at: usize, s: System, pred: Name) -> usize
@@ -84,14 +78,38 @@ fn put_pred(out: &mut [u8], at: usize, s: System, pred: Name) -> usize
     put_name(out, at, pred)
 }
 
-pub fn put_link(part: &mut [u8], s: System, pred: Name) -> usize
-    requires { ⌜ (s .name .len ≤ nameLimit) × (pred .len ≤ nameLimit) × (length (further (linkText (systemOf s) (bytesOf pred))) ≤ length (now part)) ⌝ }
-    ensures { λ r. ⌜ Wrote (further (linkText (systemOf s) (bytesOf pred))) (now (part .entry)) 0 (now (part .exit)) r ⌝ }
+fn put_user_link(out: &mut [u8], at: usize, s: System, pred: Name) -> usize
+    requires { ⌜ (s .name .len ≤ nameLimit) × (pred .len ≤ nameLimit) × (at + length (linkText (systemOf s) (bytesOf pred)) ≤ length (now out)) ⌝ }
+    ensures { λ r. ⌜ Wrote (linkText (systemOf s) (bytesOf pred)) (now (out .entry)) at (now (out .exit)) r ⌝ }
+{
+    let a = put_name(out, at, s.name);
+    let b = put_text(out, a, b"=");
+    put_pred(out, b, s, pred)
+}
+
+pub fn put_link(out: &mut [u8], at: usize, g: Group, place: usize, s: System, pred: Name) -> usize
+    requires { ⌜ (0 < place → (s .name .len ≤ nameLimit) × (pred .len ≤ nameLimit)) × (at + length (atFixed place (linkLine [] (fixedRef g)) (linkText (systemOf s) (bytesOf pred))) ≤ length (now out)) ⌝ }
+    ensures { λ r. ⌜ Wrote (atFixed place (linkLine [] (fixedRef g)) (linkText (systemOf s) (bytesOf pred))) (now (out .entry)) at (now (out .exit)) r ⌝ }
+{
+    if place == 0 {
+        return put_by_group(
+            out,
+            at,
+            g,
+            b"ZERO=ZERO",
+            b"PI_BASE=HEXAPOD",
+            b"PI_LEVELLING=HEXAPOD",
+        );
+    }
+    put_user_link(out, at, s, pred)
+}
+
+pub fn put_further_link(part: &mut [u8], g: Group, place: usize, s: System, pred: Name) -> usize
+    requires { ⌜ (0 < place → (s .name .len ≤ nameLimit) × (pred .len ≤ nameLimit)) × (length (further (atFixed place (linkLine [] (fixedRef g)) (linkText (systemOf s) (bytesOf pred)))) ≤ length (now part)) ⌝ }
+    ensures { λ r. ⌜ Wrote (further (atFixed place (linkLine [] (fixedRef g)) (linkText (systemOf s) (bytesOf pred)))) (now (part .entry)) 0 (now (part .exit)) r ⌝ }
 {
     let a = put_text(part, 0, b" \n");
-    let b = put_name(part, a, s.name);
-    let c = put_text(part, b, b"=");
-    put_pred(part, c, s, pred)
+    put_link(part, a, g, place, s, pred)
 }
 
 // ---- KEN?
@@ -125,32 +143,6 @@ pub fn put_further_enabled(part: &mut [u8], g: Group, place: u8, s: System) -> u
 }
 
 // ---- KLT?
-
-// The line of a group's fixed system.
-pub fn put_fixed_resultant(out: &mut [u8], at: usize, g: Group) -> usize
-    requires { ⌜ at + length (resultantLine [] (fixedRef g)) ≤ length (now out) ⌝ }
-    ensures { λ r. ⌜ Wrote (resultantLine [] (fixedRef g)) (now (out .entry)) at (now (out .exit)) r ⌝ }
-{
-    put_by_group(
-        out,
-        at,
-        g,
-        b"Name=ZERO EndCoordinateSystem=ZERO X=0.000000 Y=0.000000 Z=0.000000 U=0.000000 V=0.000000 W=0.000000 Steps=0",
-        b"Name=PI_BASE EndCoordinateSystem=HEXAPOD X=0.000000 Y=0.000000 Z=0.000000 U=0.000000 V=0.000000 W=0.000000 Steps=0",
-        b"Name=PI_LEVELLING EndCoordinateSystem=HEXAPOD X=0.000000 Y=0.000000 Z=0.000000 U=0.000000 V=0.000000 W=0.000000 Steps=0",
-    )
-}
-
-pub fn put_fixed_resultants(out: &mut [u8]) -> usize
-    requires { ⌜ length (fixedLines (resultantLine [])) ≤ length (now out) ⌝ }
-    ensures { λ r. ⌜ Wrote (fixedLines (resultantLine [])) (now (out .entry)) 0 (now (out .exit)) r ⌝ }
-{
-    let a = put_fixed_resultant(out, 0, Group::Operating);
-    let b = put_text(out, a, b" \n");
-    let c = put_fixed_resultant(out, b, Group::Orientational);
-    let d = put_text(out, c, b" \n");
-    put_fixed_resultant(out, d, Group::Levelling)
-}
 
 pub fn put_resultant(
     out: &mut [u8],

@@ -1,11 +1,14 @@
 use Prim.Native.Nat.{suc, _-_, _<_}
 use mathlib.Core.Path.{_≡_, _∙_}
+use mathlib.Core.List.{[]}
 use native.Mathlib.Omega.{arith}
 use lib.ListN.{length, take, drop}
 use borrow.Author.Needs.{needs}
+use Rattle.model.specs.Memory.{fixedRef}
 use Rattle.model.specs.Reply.{systemLine}
 use Rattle.chains.proofs.Copies.{length-mapped}
 use Rattle.print.specs.Over.{Wrote}
+use Rattle.reply.specs.Types.{Operating}
 use Rattle.reply.specs.Lines.{further}
 use Rattle.reply.proofs.ListLaws.{Going, plan-room, plan-start, plan-end, going-on, going-room, going-within, going-turn}
 use Rattle.reply.proofs.PlanLaws.{lineAt, systems-plan}
@@ -25,18 +28,21 @@ long s = search (length-mapped, needs)
 
 -- an index below the count is one of the array
 within : (c : tie.In-loop Inv-loop μ-loop) → c .before .loop .i < 16
-within c = let s = c .before .before .before .before .before .before .before in omega (arith, few (s .args .t1) (s .pre .0 .shape) (long s), c .loop-test .taken)
+within c = let s = c .before .before .before .before .before .before .before .before in omega (arith, few (s .args .t1) (s .pre .0 .shape) (long s), c .loop-test .taken)
 
 cast-count : tie.Need-cast-count Inv-loop μ-loop
 cast-count c = search needs
 
+element-copy-out-first : tie.Need-element-copy-out-first Inv-loop μ-loop
+element-copy-out-first c = omega arith
+
 put-fixed-systems-requires : tie.Need-put-fixed-systems-requires Inv-loop μ-loop
-put-fixed-systems-requires c κs = let s = c .before .before in omega (arith, plan-room (systems-plan (s .args .t1) (s .pre .0) (s .args .reply .now) (s .pre .1) (long s)))
+put-fixed-systems-requires c κs = let s = c .before .before .before in omega (arith, plan-room (systems-plan (s .args .t1) (s .pre .0) (s .args .reply .now) (s .pre .1) (long s)))
 
 loop-holds : tie.Need-loop-holds Inv-loop μ-loop
 loop-holds c =
     let w = c .before .before in
-    let s = w .before .before .before in
+    let s = w .before .before .before .before in
     plan-start (systems-plan (s .args .t1) (s .pre .0) (s .args .reply .now) (s .pre .1) (long s)) (w .put-fixed-systems .ensures)
 
 mul-s : tie.Need-mul-s Inv-loop μ-loop
@@ -45,38 +51,41 @@ mul-s c = omega (arith, within c)
 element-copy-out-s : tie.Need-element-copy-out-s Inv-loop μ-loop
 element-copy-out-s c = omega (arith, within c)
 
-sub-put-system : tie.Need-sub-put-system Inv-loop μ-loop
-sub-put-system c = omega (arith, going-within (c .before .before .loop .inv))
+sub-put-further-system : tie.Need-sub-put-further-system Inv-loop μ-loop
+sub-put-further-system c = omega (arith, going-within (c .before .before .loop .inv))
 
-part-put-system-start : tie.Need-part-put-system-start Inv-loop μ-loop
-part-put-system-start c = omega (arith, going-within (c .before .before .loop .inv))
+part-put-further-system-start : tie.Need-part-put-further-system-start Inv-loop μ-loop
+part-put-further-system-start c = omega (arith, going-within (c .before .before .loop .inv))
 
-part-put-system-end : tie.Need-part-put-system-end Inv-loop μ-loop
-part-put-system-end c = omega arith
+part-put-further-system-end : tie.Need-part-put-further-system-end Inv-loop μ-loop
+part-put-further-system-end c = omega arith
 
-put-system-requires : tie.Need-put-system-requires Inv-loop μ-loop
-put-system-requires c κs =
+add-put-further-system : tie.Need-add-put-further-system Inv-loop μ-loop
+add-put-further-system c = search needs
+
+put-further-system-requires : tie.Need-put-further-system-requires Inv-loop μ-loop
+put-further-system-requires c κs =
     let l = c .before .before .before in
-    let s = c .before .before .before .before .before .before .before .before .before in
+    let s = c .before .before .before .before .before .before .before .before .before .before in
     let m = s .args .t1 in
     let h = c .before .before .loop-test .taken in (
-      writable m (s .pre .0 .shape) (long s) (s .pre .0 .formed) (l .loop .i) h,
-      rw (system-turn m (s .pre .0 .shape) (long s) (l .loop .i) h) at (going-room (l .loop .inv) h),
+      λ o. writable m (s .pre .0 .shape) (long s) (s .pre .0 .formed) (l .loop .i) h,
+      rw (system-turn m (s .pre .0 .shape) (long s) (systemLine [] (fixedRef Operating)) (l .loop .i) h) at (going-room (l .loop .inv) h),
     )
 
 -- what is written is the line of the next place
-wrote : (c : tie.After-put-system Inv-loop μ-loop) → let l = c .before .before .before .before .loop in
-    Wrote (further (lineAt systemLine (c .before .before .before .before .before .before .before .before .before .before .args .t1) (suc (l .i)))) (take (length (l .reply) - l .at) (drop (l .at) (l .reply))) 0 (c .put-system .last .0) (c .put-system .result)
+wrote : (c : tie.After-put-further-system Inv-loop μ-loop) → let l = c .before .before .before .before .loop in
+    Wrote (further (lineAt systemLine (c .before .before .before .before .before .before .before .before .before .before .before .args .t1) (suc (l .i)))) (take (length (l .reply) - l .at) (drop (l .at) (l .reply))) 0 (c .put-further-system .last .0) (c .put-further-system .result)
 wrote c =
-    let s = c .before .before .before .before .before .before .before .before .before .before in
-    rw (system-turn (s .args .t1) (s .pre .0 .shape) (long s) (c .before .before .before .before .loop .i) (c .before .before .before .loop-test .taken)) (c .put-system .ensures)
+    let s = c .before .before .before .before .before .before .before .before .before .before .before in
+    rw (system-turn (s .args .t1) (s .pre .0 .shape) (long s) (systemLine [] (fixedRef Operating)) (c .before .before .before .before .loop .i) (c .before .before .before .loop-test .taken)) (c .put-further-system .ensures)
 
 add-at : tie.Need-add-at Inv-loop μ-loop
 add-at c =
     let l = c .before .before .before .before .before .before in
     let f = l .before .before .before in
     let n = going-on (l .loop .inv) (c .before .before .before .before .before .loop-test .taken) (wrote (c .before .before) .place) in
-    record { fits = omega (arith, n, l .loop .inv .long, f .put-fixed-systems .kept .0, f .before .before .before .good .1 .0 .0) }
+    record { fits = omega (arith, n, l .loop .inv .long, f .put-fixed-systems .kept .0, f .before .before .before .before .good .1 .0 .0) }
 
 add-i : tie.Need-add-i Inv-loop μ-loop
 add-i c = search needs
@@ -98,7 +107,7 @@ returns c =
     let e = c .before .before in
     let l = e .before .before .before in
     let f = l .before .before .before in
-    let s = f .before .before .before in
+    let s = f .before .before .before .before in
     plan-end (systems-plan (s .args .t1) (s .pre .0) (s .args .reply .now) (s .pre .1) (long s)) (f .put-fixed-systems .ensures) (l .loop .inv) (e .before .before .loop-test .left) (e .put-byte .ensures)
 
 pub systems-spec : {M : Type 1} → statement M
@@ -108,14 +117,16 @@ systems-spec =
     Inv-loop
     μ-loop
     cast-count
+    element-copy-out-first
     put-fixed-systems-requires
     loop-holds
     mul-s
     element-copy-out-s
-    sub-put-system
-    part-put-system-start
-    part-put-system-end
-    put-system-requires
+    sub-put-further-system
+    part-put-further-system-start
+    part-put-further-system-end
+    add-put-further-system
+    put-further-system-requires
     add-at
     add-i
     loop-less

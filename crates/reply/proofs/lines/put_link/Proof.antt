@@ -1,52 +1,83 @@
+use mathlib.Core.Path.{_≡_, _∙_}
+use mathlib.Core.List.{List, []}
+use Prim.Native.Nat.{ℕ}
 use native.Mathlib.Omega.{arith}
-use Rattle.model.specs.Lists.{joined}
+use Rattle.model.specs.Memory.{fixedRef}
+use Rattle.model.specs.Reply.{linkLine}
 use Rattle.model.specs.Stored.{systemOf, bytesOf}
-use Rattle.print.proofs.Laws.{wrote-then, wrote-end}
 use Rattle.reply.specs.Lines.{linkText}
-use Rattle.reply.proofs.LineLaws.{length-link}
+use Rattle.reply.specs.Lines.{atFixed}
+use Rattle.reply.specs.Values.{byGroup}
+use Rattle.reply.proofs.FixedLaws.{fixed-link}
+use Rattle.reply.proofs.LineLaws.{at-fixed, at-user}
 use borrow.Author.Needs.{needs}
 use Rattle.reply.proofs.lines.put_link.Statement.{statement}
 use Rattle.reply.proofs.lines.put_link.Tie as tie
 
-slice-aggregate-put-text : tie.Need-slice-aggregate-put-text
-slice-aggregate-put-text c = search needs
+abbrev user : tie.Start → List ℕ
+user s = linkText (systemOf (s .args .s)) (bytesOf (s .args .pred))
 
-put-text-requires : tie.Need-put-text-requires
-put-text-requires c κs = search needs
+text : tie.Start → List ℕ
+text s = atFixed (s .args .place) (linkLine [] (fixedRef (s .args .g))) (user s)
 
-put-name-requires : tie.Need-put-name-requires
-put-name-requires c κs = (c .before .before .before .before .before .before .before .pre .0, omega (arith, length-link (systemOf (c .before .before .before .before .before .before .before .args .s)) (bytesOf (c .before .before .before .before .before .before .before .args .pred))))
+is-fixed : (c : tie.Then1) → text (c .before .before) ≡ linkLine [] (fixedRef (c .before .before .args .g))
+unfolding text
+is-fixed c = let s = c .before .before in at-fixed (s .args .place) (linkLine [] (fixedRef (s .args .g))) (user s) (c .if1 .taken)
 
-slice-aggregate-put-text-2 : tie.Need-slice-aggregate-put-text-2
-slice-aggregate-put-text-2 c = search needs
+is-user : (c : tie.Else1) → text (c .before .before) ≡ user (c .before .before)
+unfolding text
+is-user c = let s = c .before .before in at-user (s .args .place) (linkLine [] (fixedRef (s .args .g))) (user s) (c .if1 .left)
 
-put-text-requires-2 : tie.Need-put-text-requires-2
-put-text-requires-2 c κs = omega (arith, length-link (systemOf (c .before .before .before .before .before .before .before .before .before .before .before .before .args .s)) (bytesOf (c .before .before .before .before .before .before .before .before .before .before .before .before .args .pred)))
+slice-aggregate-put-by-group : tie.Need-slice-aggregate-put-by-group
+slice-aggregate-put-by-group c = search needs
 
-put-pred-requires : tie.Need-put-pred-requires
-put-pred-requires c κs = (c .before .before .before .before .before .before .before .before .before .before .before .before .before .before .before .before .pre .1, omega (arith, length-link (systemOf (c .before .before .before .before .before .before .before .before .before .before .before .before .before .before .before .before .args .s)) (bytesOf (c .before .before .before .before .before .before .before .before .before .before .before .before .before .before .before .before .args .pred))))
+slice-aggregate-put-by-group-2 : tie.Need-slice-aggregate-put-by-group-2
+slice-aggregate-put-by-group-2 c = search needs
+
+slice-aggregate-put-by-group-3 : tie.Need-slice-aggregate-put-by-group-3
+slice-aggregate-put-by-group-3 c = search needs
+
+put-by-group-requires : tie.Need-put-by-group-requires
+unfolding text
+put-by-group-requires c κs =
+    let t = c .before .before .before .before in
+    rw (is-fixed t ∙ fixed-link (t .before .before .args .g)) at (t .before .before .pre .1)
 
 same-length : tie.Need-same-length
 same-length c = search needs
 
 returns : tie.Need-returns
-unfolding linkText joined
+unfolding text
 returns c =
-    let p = c .before .before in
-    let e = p .before .before .before .before in
-    let n = e .before .before .before .before .before in
-    let a = n .before .before .before .before in
-    wrote-then (a .put-text .ensures) (wrote-then (n .put-name .ensures) (wrote-then (e .put-text2 .ensures) (wrote-end (p .put-pred .ensures))))
+    let k = c .before .before in
+    let t = k .before .before .before .before .before in
+    rw (is-fixed t ∙ fixed-link (t .before .before .args .g)) (k .put-by-group .ensures)
+
+put-user-link-requires : tie.Need-put-user-link-requires
+unfolding text
+put-user-link-requires c κs =
+    let t = c .before in
+    let s = t .before .before in
+    let w = s .pre .0 (omega (arith, t .if1 .left)) in
+    (w .0, w .1, rw (is-user t) at (s .pre .1))
+
+same-length-2 : tie.Need-same-length-2
+same-length-2 c = search needs
+
+returns-2 : tie.Need-returns-2
+unfolding text
+returns-2 c = let k = c .before .before in rw (is-user (k .before .before)) (k .put-user-link .ensures)
 
 pub put-link-spec : {M : Type 1} → statement M
 put-link-spec =
     tie.close
     (tie.spec
-    slice-aggregate-put-text
-    put-text-requires
-    put-name-requires
-    slice-aggregate-put-text-2
-    put-text-requires-2
-    put-pred-requires
+    slice-aggregate-put-by-group
+    slice-aggregate-put-by-group-2
+    slice-aggregate-put-by-group-3
+    put-by-group-requires
     same-length
-    returns)
+    returns
+    put-user-link-requires
+    same-length-2
+    returns-2)

@@ -1,57 +1,83 @@
+use mathlib.Core.Path.{_≡_, _∙_}
+use mathlib.Core.List.{List, []}
+use Prim.Native.Nat.{ℕ}
 use native.Mathlib.Omega.{arith}
-use Rattle.model.specs.Lists.{joined}
+use Rattle.model.specs.Memory.{fixedRef}
+use Rattle.model.specs.Reply.{systemLine}
 use Rattle.model.specs.Stored.{systemOf}
-use Rattle.print.proofs.Laws.{wrote-then, wrote-end}
 use Rattle.reply.specs.Lines.{systemText}
-use Rattle.reply.proofs.LineLaws.{length-system}
+use Rattle.reply.specs.Lines.{atFixed}
+use Rattle.reply.specs.Values.{byGroup}
+use Rattle.reply.proofs.FixedLaws.{fixed-system}
+use Rattle.reply.proofs.LineLaws.{at-fixed, at-user}
 use borrow.Author.Needs.{needs}
 use Rattle.reply.proofs.lines.put_system.Statement.{statement}
 use Rattle.reply.proofs.lines.put_system.Tie as tie
 
-slice-aggregate-put-text : tie.Need-slice-aggregate-put-text
-slice-aggregate-put-text c = search needs
+abbrev user : tie.Start → List ℕ
+user s = systemText (systemOf (s .args .s))
 
-put-text-requires : tie.Need-put-text-requires
-put-text-requires c κs = omega (arith, length-system (systemOf (c .before .before .before .args .s)))
+text : tie.Start → List ℕ
+text s = atFixed (s .args .place) (systemLine [] (fixedRef (s .args .g))) (user s)
 
-put-name-requires : tie.Need-put-name-requires
-put-name-requires c κs = (c .before .before .before .before .before .before .before .pre .0 .name-fits, omega (arith, length-system (systemOf (c .before .before .before .before .before .before .before .args .s))))
+is-fixed : (c : tie.Then1) → text (c .before .before) ≡ systemLine [] (fixedRef (c .before .before .args .g))
+unfolding text
+is-fixed c = let s = c .before .before in at-fixed (s .args .place) (systemLine [] (fixedRef (s .args .g))) (user s) (c .if1 .taken)
 
-slice-aggregate-put-text-2 : tie.Need-slice-aggregate-put-text-2
-slice-aggregate-put-text-2 c = search needs
+is-user : (c : tie.Else1) → text (c .before .before) ≡ user (c .before .before)
+unfolding text
+is-user c = let s = c .before .before in at-user (s .args .place) (systemLine [] (fixedRef (s .args .g))) (user s) (c .if1 .left)
 
-put-text-requires-2 : tie.Need-put-text-requires-2
-put-text-requires-2 c κs = omega (arith, length-system (systemOf (c .before .before .before .before .before .before .before .before .before .before .before .before .args .s)))
+slice-aggregate-put-by-group : tie.Need-slice-aggregate-put-by-group
+slice-aggregate-put-by-group c = search needs
 
-put-kind-requires : tie.Need-put-kind-requires
-put-kind-requires c κs = omega (arith, length-system (systemOf (c .before .before .before .before .before .before .before .before .before .before .before .before .before .before .before .before .args .s)))
+slice-aggregate-put-by-group-2 : tie.Need-slice-aggregate-put-by-group-2
+slice-aggregate-put-by-group-2 c = search needs
 
-put-six-values-requires : tie.Need-put-six-values-requires
-put-six-values-requires c κs = (c .before .before .before .before .before .before .before .before .before .before .before .before .before .before .before .before .before .before .before .before .pre .0 .offsets-fit, c .before .before .before .before .before .before .before .before .before .before .before .before .before .before .before .before .before .before .before .before .pre .0 .turns-fit, omega (arith, length-system (systemOf (c .before .before .before .before .before .before .before .before .before .before .before .before .before .before .before .before .before .before .before .before .args .s))))
+slice-aggregate-put-by-group-3 : tie.Need-slice-aggregate-put-by-group-3
+slice-aggregate-put-by-group-3 c = search needs
+
+put-by-group-requires : tie.Need-put-by-group-requires
+unfolding text
+put-by-group-requires c κs =
+    let t = c .before .before .before .before in
+    rw (is-fixed t ∙ fixed-system (t .before .before .args .g)) at (t .before .before .pre .1)
 
 same-length : tie.Need-same-length
 same-length c = search needs
 
 returns : tie.Need-returns
-unfolding systemText joined
+unfolding text
 returns c =
-    let v = c .before .before in
-    let k = v .before .before .before .before in
-    let t = k .before .before .before .before in
-    let n = t .before .before .before .before .before in
-    let a = n .before .before .before .before in
-    wrote-then (a .put-text .ensures) (wrote-then (n .put-name .ensures) (wrote-then (t .put-text2 .ensures) (wrote-then (k .put-kind .ensures) (wrote-end (v .put-six-values .ensures)))))
+    let k = c .before .before in
+    let t = k .before .before .before .before .before in
+    rw (is-fixed t ∙ fixed-system (t .before .before .args .g)) (k .put-by-group .ensures)
+
+put-user-system-requires : tie.Need-put-user-system-requires
+unfolding text
+put-user-system-requires c κs =
+    let t = c .before in
+    let s = t .before .before in
+    let w = s .pre .0 (omega (arith, t .if1 .left)) in
+    (w, rw (is-user t) at (s .pre .1))
+
+same-length-2 : tie.Need-same-length-2
+same-length-2 c = search needs
+
+returns-2 : tie.Need-returns-2
+unfolding text
+returns-2 c = let k = c .before .before in rw (is-user (k .before .before)) (k .put-user-system .ensures)
 
 pub put-system-spec : {M : Type 1} → statement M
 put-system-spec =
     tie.close
     (tie.spec
-    slice-aggregate-put-text
-    put-text-requires
-    put-name-requires
-    slice-aggregate-put-text-2
-    put-text-requires-2
-    put-kind-requires
-    put-six-values-requires
+    slice-aggregate-put-by-group
+    slice-aggregate-put-by-group-2
+    slice-aggregate-put-by-group-3
+    put-by-group-requires
     same-length
-    returns)
+    returns
+    put-user-system-requires
+    same-length-2
+    returns-2)

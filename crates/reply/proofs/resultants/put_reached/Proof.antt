@@ -9,7 +9,7 @@ shown-of-requires c κs = search needs
 put-resultant-requires : tie.Need-put-resultant-requires
 put-resultant-requires c κs =
     let s = c .before .before .before .before .before in
-    rw (c .before .shown-of .ensures) (s .pre .0, s .pre .1, shown-quarters (s .args .r .pose .rot), s .pre .2)
+    rw (c .before .shown-of .ensures) (s .pre .0 .name-fits, s .pre .0 .near, shown-quarters (s .args .r .pose .rot), s .pre .1)
 
 same-length : tie.Need-same-length
 same-length c = search needs

@@ -12,8 +12,10 @@ use Rattle.chains.proofs.Copies.{length-mapped, unset}
 use Rattle.chains.proofs.Reaching.{walked-fixed}
 use Rattle.chains.proofs.Ready.{walkable}
 use Rattle.print.proofs.Laws.{wrote-then}
+use Rattle.reply.specs.Lines.{atFixed}
 use Rattle.reply.specs.Reached.{reachedText, refAt}
 use Rattle.reply.proofs.KeptLaws.{held, taken}
+use Rattle.reply.proofs.LineLaws.{at-user}
 use Rattle.reply.proofs.ListLaws.{replied}
 use Rattle.reply.proofs.ReachLaws.{ref-place, ref-fixed, ref-user, FlatOf, flat-of, can-walk, deep-enough, reached-within, reached-line}
 use Rattle.reply.proofs.ShortLaws.{resultant-short}
@@ -42,11 +44,17 @@ fits s =
 fixed : (c : tie.Then1) → text (c .before .before) ≡ resultantLine [] (fixedRef (c .before .before .args .g))
 fixed c = let s = c .before .before in ref-fixed (systemsOf (s .args .t1)) (s .args .g) (s .args .place) (c .if1 .taken)
 
-put-fixed-resultant-requires : tie.Need-put-fixed-resultant-requires
-put-fixed-resultant-requires c κs = omega (arith, fits (c .before .before .before), ap length (fixed (c .before)))
+element-copy-out-first : tie.Need-element-copy-out-first
+element-copy-out-first c = omega arith
+
+unmoved-requires : tie.Need-unmoved-requires
+unmoved-requires c κs = search needs
+
+put-line-requires : tie.Need-put-line-requires
+put-line-requires c κs = (λ h. absurd (omega arith), omega (arith, fits (c .before .before .before .before .before), ap length (fixed (c .before .before .before))))
 
 put-byte-requires : tie.Need-put-byte-requires
-put-byte-requires c κs = omega (arith, fits (c .before .before .before .before .before .before .before), ap length (fixed (c .before .before .before .before .before)))
+put-byte-requires c κs = omega (arith, fits (c .before .before .before .before .before .before .before .before .before), ap length (fixed (c .before .before .before .before .before .before .before)))
 
 same-length : tie.Need-same-length
 same-length c = search needs
@@ -56,7 +64,7 @@ unfolding listing
 returns c =
     let e = c .before .before in
     let f = e .before .before .before .before in
-    replied (rw length-append (fits (c .before .before .before .before .before .before .before .before .before .before))) (rw (fixed (f .before .before)) (wrote-then (f .put-fixed-resultant .ensures) (e .put-byte .ensures)))
+    replied (rw length-append (fits (c .before .before .before .before .before .before .before .before .before .before .before .before))) (rw (fixed (f .before .before .before .before)) (wrote-then (f .put-line .ensures) (e .put-byte .ensures)))
 
 -- ---- a user system
 
@@ -108,8 +116,8 @@ mul-s c = search needs
 element-copy-out-s : tie.Need-element-copy-out-s
 element-copy-out-s c = slot-is c .2
 
-unmoved-requires : tie.Need-unmoved-requires
-unmoved-requires c κs = search needs
+unmoved-requires-2 : tie.Need-unmoved-requires-2
+unmoved-requires-2 c κs = search needs
 
 slice-aggregate-reach : tie.Need-slice-aggregate-reach
 slice-aggregate-reach c = search needs
@@ -126,25 +134,29 @@ slice-aggregate-reach-3 c = taken (flat (c .before .before .before .before .befo
 reach-requires : tie.Need-reach-requires
 reach-requires c κs =
     let f = flat (c .before .before .before .before .before .before) in
-    (can-walk f, (c .before .before .before .unmoved .ensures ∙ walked-fixed _ 0 refl, deep-enough f _ (c .before .before .before .before .before .before .before .before .before .before .before .before .before .pre .1 .1)))
+    (can-walk f, (c .before .before .before .unmoved2 .ensures ∙ walked-fixed _ 0 refl, deep-enough f _ (c .before .before .before .before .before .before .before .before .before .before .before .before .before .pre .1 .1)))
 
 group-of-requires : tie.Need-group-of-requires
 group-of-requires c κs = search needs
 
-put-reached-requires : tie.Need-put-reached-requires
-put-reached-requires c κs =
+-- as the writer of a line has it, for a place that is a user system's
+shown : (c : tie.After-group-of) → let r = c .before .before in text (start r)
+    ≡ atFixed (start r .args .place) (resultantLine [] (fixedRef (c .group-of .result))) (reachedText (bytesOf (getD (start r .args .t1 .systems) (slotted r .slot .result) unset .name)) (c .group-of .result) (walkOf (r .reach .result)))
+shown c = let r = c .before .before in user c ∙ sym (at-user (start r .args .place) _ _ (slotted r .before .before .before .before .before .before .if1 .left))
+
+put-line-requires-2 : tie.Need-put-line-requires-2
+put-line-requires-2 c κs =
     let r = c .before .before in
     let s = start r in
     let k = slot-is (slotted r) in (
-      name-fits (s .args .t1) (s .pre .0 .shape) (long s) (slotted r .slot .result) (k .1),
-      reached-within (flat (slotted r .before)) (k .0) (k .1) (r .reach .ensures .0),
-      omega (arith, fits s, ap length (user c)),
+      λ o. record { name-fits = name-fits (s .args .t1) (s .pre .0 .shape) (long s) (slotted r .slot .result) (k .1); near = reached-within (flat (slotted r .before)) (k .0) (k .1) (r .reach .ensures .0) },
+      omega (arith, fits s, ap length (shown c)),
     )
 
 put-byte-requires-2 : tie.Need-put-byte-requires-2
 put-byte-requires-2 c κs =
     let k = c .before .before .before in
-    omega (arith, fits (start (k .before .before .before)), ap length (user (k .before)), k .put-reached .ensures .place, k .put-reached .kept .0)
+    omega (arith, fits (start (k .before .before .before)), ap length (shown (k .before)), k .put-line2 .ensures .place, k .put-line2 .kept .0)
 
 same-length-2 : tie.Need-same-length-2
 same-length-2 c = search needs
@@ -154,13 +166,15 @@ unfolding listing
 returns-2 c =
     let e = c .before .before in
     let k = e .before .before .before .before in
-    replied (rw length-append (fits (start (k .before .before .before)))) (rw (user (k .before)) (wrote-then (k .put-reached .ensures) (e .put-byte2 .ensures)))
+    replied (rw length-append (fits (start (k .before .before .before)))) (rw (shown (k .before)) (wrote-then (k .put-line2 .ensures) (e .put-byte2 .ensures)))
 
 pub resultant-at-spec : {M : Type 1} → statement M
 resultant-at-spec =
     tie.close
     (tie.spec
-    put-fixed-resultant-requires
+    element-copy-out-first
+    unmoved-requires
+    put-line-requires
     put-byte-requires
     same-length
     returns
@@ -170,14 +184,14 @@ resultant-at-spec =
     slot-requires
     mul-s
     element-copy-out-s
-    unmoved-requires
+    unmoved-requires-2
     slice-aggregate-reach
     slice-aggregate-reach-2
     array-share-prefix-preds
     slice-aggregate-reach-3
     reach-requires
     group-of-requires
-    put-reached-requires
+    put-line-requires-2
     put-byte-requires-2
     same-length-2
     returns-2)
