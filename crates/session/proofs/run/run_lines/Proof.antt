@@ -97,30 +97,20 @@ say-requires c κs =
 
 -- ---- its turn
 
--- the stages behind a turn: where its line ends, what was decided of it, and where the run began
-abbrev found : tie.After-slice-known3 Inv-loop μ-loop → tie.Else1 Inv-loop μ-loop
-found c = c .before .before .before .before .before .before .before .before .before .before
-
-abbrev decided : tie.After-slice-known3 Inv-loop μ-loop → tie.After-decide Inv-loop μ-loop
-decided c = c .before .before .before .before .before .before .before
-
-abbrev begun : tie.Else1 Inv-loop μ-loop → tie.Start Inv-loop μ-loop
-begun c = c .before .before .before .before .before .before .before .before
-
 -- what was decided is said
 said : (c : tie.After-slice-known3 Inv-loop μ-loop) →
-    let l = found c .before .before .before .loop in
-    let start = begun (found c) in
-    let step = decided c .decide in
+    let l = c .before .before .before .before .before .before .before .before .before .before .before .before .before .loop in
+    let start = c .before .before .before .before .before .before .before .before .before .before .before .before .before .before .before .before .before .before in
+    let step = c .before .before .before .before .before .before .before .decide in
     Turned (stateOf (start .args .s)) (start .args .block .now) (start .args .out .now)
     (withRest (withRest (l .out) (l .written) (step .last .1 .1 .1 .1 .0)) (l .written) (c .before .before .say .last .1 .1 .0))
     (stateWith (l .volatile) (l .permanent) (l .level) (l .error)) (step .result .decision)
-    (found c .before .line-end .result + 1) (l .written + c .before .before .say .result)
+    (c .before .before .before .before .before .before .before .before .before .before .before .line-end .result + 1) (l .written + c .before .before .say .result)
 said c =
-    let p = found c in
-    let l = found c .before .before .before .loop in
-    let start = begun (found c) in
-    let step = decided c .decide in
+    let p = c .before .before .before .before .before .before .before .before .before .before in
+    let l = c .before .before .before .before .before .before .before .before .before .before .before .before .before .loop in
+    let start = c .before .before .before .before .before .before .before .before .before .before .before .before .before .before .before .before .before .before in
+    let step = c .before .before .before .before .before .before .before .decide in
     let block = start .args .block .now in
     let end = p .before .line-end in
     let size : end .result - l .used ≡ before (drop (l .used) block) = omega (arith, end .ensures) in
@@ -131,20 +121,20 @@ said c =
 
 add-written : tie.Need-add-written Inv-loop μ-loop
 add-written c =
-    let start = begun (found c) in
+    let start = c .before .before .before .before .before .before .before .before .before .before .before .before .before .before .before .before .before .before in
     record { fits = omega (arith, said c .room, start .good .1 .1 .0 .0) }
 
 add-used : tie.Need-add-used Inv-loop μ-loop
 add-used c =
-    let start = begun (found c) in
-    record { fits = omega (arith, inside (found c), start .good .1 .0 .0) }
+    let start = c .before .before .before .before .before .before .before .before .before .before .before .before .before .before .before .before .before .before in
+    record { fits = omega (arith, inside (c .before .before .before .before .before .before .before .before .before .before), start .good .1 .0 .0) }
 
 -- less is left of the block
 less : (c : tie.After-slice-known3 Inv-loop μ-loop) →
-    let block = begun (found c) .args .block .now in
-    length block - (found c .before .line-end .result + 1) < length block - found c .before .before .before .loop .used
+    let block = c .before .before .before .before .before .before .before .before .before .before .before .before .before .before .before .before .before .before .args .block .now in
+    length block - (c .before .before .before .before .before .before .before .before .before .before .before .line-end .result + 1) < length block - c .before .before .before .before .before .before .before .before .before .before .before .before .before .loop .used
 less c =
-    omega (arith, inside (found c), found c .before .line-end .ensures)
+    omega (arith, inside (c .before .before .before .before .before .before .before .before .before .before), c .before .before .before .before .before .before .before .before .before .before .before .line-end .ensures)
 
 -- ---- what was decided is done
 
