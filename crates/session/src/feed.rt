@@ -4,6 +4,7 @@ use crate::cut::keep;
 use crate::run::run_lines;
 use crate::run::say;
 use engine::line::obey;
+use facts::limits::ENOUGH;
 use lines::line_end;
 use model::State;
 ghost use mathlib.Core.Path.{_≡_};
@@ -38,7 +39,7 @@ fn nothing_held() -> Kept
     ensures { λ r. ⌜ r .count ≡ 0 ⌝ }
 {
     Kept {
-        bytes: [0u8; 121],
+        bytes: [0u8; ENOUGH],
         count: 0,
     }
 }
