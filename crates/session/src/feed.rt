@@ -132,7 +132,7 @@ pub fn feed(s: Session, block: &[u8], out: &mut [u8]) -> Fed
     }
 }
 
-// The end of the input: bytes after the last LF, if any, are one more line.
+// The end of the input: a line that no LF has ended is answered too.
 pub fn finish(s: Session, out: &mut [u8]) -> usize
     requires { ⌜ FineState (s .state) ⌝ }
     requires { ⌜ s .held .count ≤ enough ⌝ }
