@@ -3,7 +3,7 @@ use Prim.Native.Nat.{ℕ, _≤_}
 use mathlib.Core.Path.{_≡_}
 use mathlib.Core.List.{List}
 use mathlib.Core.Bool.{true}
-use Rattle.engine.specs.Fine.{Fine}
+use Rattle.model.specs.Stored.{FineState}
 use Rattle.session.specs.Feed.{Fed, fed, enough}
 use Rattle.session.specs.Blocks.{heldOf}
 use Rattle.session.specs.declared.feed.Session.{Session}
@@ -15,7 +15,7 @@ given s part = fed (heldOf s .state) (heldOf s .line) part
 
 -- a session between two blocks
 pub record Between (s : Session) : Type 0 where
-  pub fine : Fine (s .state)
+  pub fine : FineState (s .state)
   pub few : s .held .count ≤ enough
 
 -- a block was served: if all could be written, the session holds what it gives for the whole block

@@ -30,7 +30,7 @@ fn write_answers(s: Session, part: &[u8], answers: &[u8]) -> bool
     io::write_all(OUTPUT, answers)
 }
 
-// The same for the end of the input: bytes after the last LF, if any, are one more line.
+// The same for the end of the input, where what is held is a line.
 fn write_last(s: Session, answers: &[u8]) -> bool
     requires { ⌜ now answers ≡ ended (heldOf s) ⌝ }
 {

@@ -48,6 +48,6 @@ fed m s l (b ∷ bs) =
       | false ↦ fed m s (grown m l b) bs
     ]
 
--- at the end of the input: bytes after the last LF, if any, are one more line
+-- at the end of the input what is held is a line, unless it is nothing
 abbrev pub ended : {S : Type 0} → Machine S → Held S → List ℕ
 ended m h = elim (none? (h .line)) [ true ↦ [] | false ↦ m .answer (h .state) (h .line) .text ]

@@ -25,8 +25,6 @@ pub fn put_complaint(out: &mut [u8], at: usize, line: u64) -> usize
     ensures { λ r. ⌜ Wrote (complaint line) (now (out .entry)) at (now (out .exit)) r ⌝ }
 {
     let i = put_text(out, at, b"? ");
-    let mut digits = [0u8; 20];
-    let n = io::decimal(line, &mut digits);
-    let j = put_text(out, i, &digits[..n]);
+    let j = put_decimal(out, i, line);
     put_byte(out, j, b'\n')
 }

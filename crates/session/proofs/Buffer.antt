@@ -49,15 +49,16 @@ unfolding printed
 printed-answered st t b = text-answered t b
 
 -- what is printed is told by the number and what was written
-seen-shown : {o p : Outcome} → shown o ≡ shown p → seen o ≡ seen p
+seen-shown : (o p : Outcome) → shown o ≡ shown p → seen o ≡ seen p
 unfolding printed
-seen-shown e = ap {B = Seen} (λ (s : Shown). record { state = s .state; text = elim (eqb (s .number) 0) [ true ↦ s .text | false ↦ ascii "E " ++ (decimal (s .number) ++ ascii "\n") ] }) e
+seen-shown o p e =
+    ap {B = Seen} (λ (s : Shown). record { state = s .state; text = elim (eqb (s .number) 0) [ true ↦ s .text | false ↦ ascii "E " ++ (decimal (s .number) ++ ascii "\n") ] }) e
 
 -- ---- the two laws
 
 -- what the lent buffer holds does not show
 pub any-buffer : (st : State) (l b c : List ℕ) → bufferLimit ≤ length b → bufferLimit ≤ length c → seen (stepped st l b) ≡ seen (stepped st l c)
-any-buffer st l b c h k = seen-shown (shown-alike st l l b c (refusal-alone st l b h ∙ sym (refusal-alone st l c k)) (λ z. refl))
+any-buffer st l b c h k = seen-shown (stepped st l b) (stepped st l c) (shown-alike st l l b c (refusal-alone st l b h ∙ sym (refusal-alone st l c k)) (λ z. refl))
 
 too-long : (st : State) (l b : List ℕ) → bufferLimit ≤ length b → lineLimit < length l → refusal st l b ≡ 3
 unfolding first unreadable
@@ -67,7 +68,7 @@ too-long st l b h k = refusal-alone st l b h ∙ rw (lt-ltb lineLimit (length l)
 pub clipped : (st : State) (l b : List ℕ) → bufferLimit ≤ length b → seen (stepped st (take (suc lineLimit) l) b) ≡ seen (stepped st l b)
 clipped st l b h =
     elim (decLt lineLimit (length l)) [
-      | yes k ↦ seen-shown (shown-alike st (take (suc lineLimit) l) l b b
+      | yes k ↦ seen-shown (stepped st (take (suc lineLimit) l) b) (stepped st l b) (shown-alike st (take (suc lineLimit) l) l b b
           (too-long st (take (suc lineLimit) l) b h (rw (length-take-le (suc lineLimit) l k) (omega arith)) ∙ sym (too-long st l b h k))
           (λ z. absurd (omega (arith, z, too-long st l b h k))))
       | no k ↦ ap (λ (t : List ℕ). seen (stepped st t b)) (take-all (suc lineLimit) l (omega arith))

@@ -40,7 +40,7 @@ enough = suc lineLimit
 abbrev pub fed : State → List ℕ → List ℕ → Fed
 fed st l block = Lines.fed answering st l block
 
--- [ksrun] at the end of the input: bytes after the last LF, if any, are one more line
+-- [ksrun] at the end of the input what is held is a line, unless it is nothing
 unfoldable pub ended : Held → List ℕ
 ended h = Lines.ended answering h
 

@@ -1,4 +1,5 @@
 // What is held of a line that no block has ended yet.
+use facts::limits::ENOUGH;
 ghost use mathlib.Core.List.{_++_};
 ghost use Prim.Native.Nat.{_≤_};
 ghost use lib.ListN.{take};
@@ -6,7 +7,7 @@ ghost use Rattle.session.specs.Feed.{enough, Keeps};
 
 // The bytes of an unfinished line: the first count. Of a line that is too long, one byte too many is enough.
 pub struct Kept {
-    pub bytes: [u8; 121],
+    pub bytes: [u8; ENOUGH],
     pub count: usize,
 }
 
@@ -19,7 +20,7 @@ pub fn keep(held: Kept, part: &[u8]) -> Kept
     let mut n = held.count;
     let mut i = 0;
     while i < part.len() {
-        if 121 <= n {
+        if ENOUGH <= n {
             return next;
         }
         next.bytes[n] = part[i];

@@ -4,6 +4,7 @@ use crate::cut::keep;
 use crate::run::run_lines;
 use crate::run::say;
 use engine::line::obey;
+use facts::limits::ENOUGH;
 use lines::line_end;
 use model::State;
 ghost use mathlib.Core.Path.{_≡_};
@@ -38,7 +39,7 @@ fn nothing_held() -> Kept
     ensures { λ r. ⌜ r .count ≡ 0 ⌝ }
 {
     Kept {
-        bytes: [0u8; 121],
+        bytes: [0u8; ENOUGH],
         count: 0,
     }
 }
@@ -131,7 +132,7 @@ pub fn feed(s: Session, block: &[u8], out: &mut [u8]) -> Fed
     }
 }
 
-// The end of the input: bytes after the last LF, if any, are one more line.
+// The end of the input: a line that no LF has ended is answered too.
 pub fn finish(s: Session, out: &mut [u8]) -> usize
     requires { ⌜ FineState (s .state) ⌝ }
     requires { ⌜ s .held .count ≤ enough ⌝ }

@@ -102,7 +102,7 @@ enum-told-3 : tie.Need-enum-told-3
 enum-told-3 c = search needs
 
 put-complaint-requires : tie.Need-put-complaint-requires
-put-complaint-requires c κs = let st = c .before .before .before .before .before .before .before .before .before .before .before in omega (arith, complaint-short (st .args .line), st .pre .2)
+put-complaint-requires c κs = let st = c .before .before .before .before .before .before .before .before .before .before .before in omega (arith, complaint-short (st .args .line) (st .fits .line .fits), st .pre .2)
 
 same-length : tie.Need-same-length
 same-length c = search needs
@@ -194,7 +194,7 @@ returns-6 c =
     let st = c .before .before .before .before .before .before .before .before .before .before .before .before .before .before in
     let a = st .args in
     not-ordered (viewOf (a .s)) (a .line) (a .text .now) (rw (c .before .before .before .before .enum-told3 .given .1) at (c .before .before .before .before .before .before .before .before .parse .ensures .order)) refl
-    (p .put-complaint .ensures) (omega (arith, complaint-short (a .line), st .pre .2, p .put-complaint .ensures .place))
+    (p .put-complaint .ensures) (omega (arith, complaint-short (a .line) (st .fits .line .fits), st .pre .2, p .put-complaint .ensures .place))
 
 pub obey-spec : {M : Type 1} → statement M
 obey-spec =

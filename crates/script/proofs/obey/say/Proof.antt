@@ -1,3 +1,4 @@
+use Prim.Native.Nat.{_<_}
 use mathlib.Core.Path.{_≡_, refl, sym}
 use native.Mathlib.Omega.{arith}
 use lib.ListN.{length, take}
@@ -6,6 +7,9 @@ use Rattle.script.proofs.AnswerLaws.{said-short}
 use borrow.Author.Needs.{needs}
 use Rattle.script.proofs.obey.say.Statement.{statement}
 use Rattle.script.proofs.obey.say.Tie as tie
+
+number-byte : (st : tie.Start) → st .args .r .number < 256
+number-byte st = search needs
 
 slice-aggregate-put-said : tie.Need-slice-aggregate-put-said
 slice-aggregate-put-said c = sym (length-take-le _ _ (search needs))
@@ -16,7 +20,7 @@ put-said-requires c κs =
     let r = st .args .r in
     let reply = st .args .reply .now in
     let e = length-take-le (r .length) reply (search needs) in
-    omega (arith, said-short (r .number) (take (r .length) reply), e, st .pre)
+    omega (arith, said-short (r .number) (take (r .length) reply) (number-byte st), e, st .pre)
 
 same-length : tie.Need-same-length
 same-length c = search needs
@@ -31,13 +35,13 @@ returns c =
     record {
       state = refl;
       text = p .put-said .ensures;
-      inside = omega (arith, said-short (r .number) (take (r .length) reply), e, st .pre, p .put-said .ensures .place);
+      inside = omega (arith, said-short (r .number) (take (r .length) reply) (number-byte st), e, st .pre, p .put-said .ensures .place);
     }
 
 put-said-requires-2 : tie.Need-put-said-requires-2
 put-said-requires-2 c κs =
     let st = c .before .before .before .before .before in
-    omega (arith, said-short (st .args .r .number) (st .args .reply .now), st .pre)
+    omega (arith, said-short (st .args .r .number) (st .args .reply .now) (number-byte st), st .pre)
 
 same-length-2 : tie.Need-same-length-2
 same-length-2 c = search needs
@@ -48,7 +52,7 @@ returns-2 c =
     let r = st .args .r in
     let reply = st .args .reply .now in
     let e : take (r .length) reply ≡ reply = take-all (r .length) reply (c .before .before .before .before .if1 .left) in
-    record { state = refl; text = rw e (c .before .before .put-said2 .ensures); inside = omega (arith, said-short (r .number) reply, st .pre, c .before .before .put-said2 .ensures .place) }
+    record { state = refl; text = rw e (c .before .before .put-said2 .ensures); inside = omega (arith, said-short (r .number) reply (number-byte st), st .pre, c .before .before .put-said2 .ensures .place) }
 
 pub say-spec : {M : Type 1} → statement M
 say-spec =

@@ -1,3 +1,4 @@
+use Prim.Native.Nat.{_<_}
 use mathlib.Core.Path.{refl}
 use mathlib.Core.List.{[]}
 use native.Mathlib.Omega.{arith}
@@ -6,11 +7,14 @@ use borrow.Author.Needs.{needs}
 use Rattle.script.proofs.obey.say_begun.Statement.{statement}
 use Rattle.script.proofs.obey.say_begun.Tie as tie
 
+number-byte : (st : tie.Start) → st .args .r .number < 256
+number-byte st = search needs
+
 slice-aggregate-put-said : tie.Need-slice-aggregate-put-said
 slice-aggregate-put-said c = search needs
 
 put-said-requires : tie.Need-put-said-requires
-put-said-requires c κs = let st = c .before .before .before in omega (arith, said-short (st .args .r .number) [], st .pre)
+put-said-requires c κs = let st = c .before .before .before in omega (arith, said-short (st .args .r .number) [] (number-byte st), st .pre)
 
 same-length : tie.Need-same-length
 same-length c = search needs
@@ -22,7 +26,7 @@ returns c =
     record {
       state = refl;
       text = p .put-said .ensures;
-      inside = omega (arith, said-short (st .args .r .number) [], st .pre, p .put-said .ensures .place);
+      inside = omega (arith, said-short (st .args .r .number) [] (number-byte st), st .pre, p .put-said .ensures .place);
     }
 
 pub say-begun-spec : {M : Type 1} → statement M
