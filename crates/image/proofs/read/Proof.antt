@@ -22,31 +22,16 @@ memory-there c = let r = c .before .before in told-value 14 _ _ (rw (not-false (
 judged : (c : tie.After-memory-fine) → c .memory-fine .result ≡ memoryFine (memoryOf (c .before .before .before .before .before .before .read-memory .result .memory))
 judged c = rw (c .before .before .before .before .before .before .read-memory .ensures .1) at (c .memory-fine .ensures)
 
-read-memory-requires : tie.Need-read-memory-requires
-read-memory-requires c κs = search needs
-
-refused-requires : tie.Need-refused-requires
-refused-requires c κs = search needs
-
 returns : tie.Need-returns
 returns c =
     let r = c .before .before .before in
     let e = told-value 14 _ _ (rw (not-true (r .read-memory .result .ok) (c .before .if1 .taken)) at (r .read-memory .ensures .0)) in
     refuses _ (c .refused .result) (c .refused .ensures) (unread _ e)
 
-refused-requires-2 : tie.Need-refused-requires-2
-refused-requires-2 c κs = search needs
-
 returns-2 : tie.Need-returns-2
 returns-2 c =
     let t = c .before in
     refuses _ (c .refused2 .result) (c .refused2 .ensures) (bytes-left _ _ _ (memory-there (t .before .before)) (t .if2 .taken))
-
-memory-fine-requires : tie.Need-memory-fine-requires
-memory-fine-requires c κs = search needs
-
-refused-requires-3 : tie.Need-refused-requires-3
-refused-requires-3 c κs = search needs
 
 returns-3 : tie.Need-returns-3
 returns-3 c =
@@ -67,12 +52,12 @@ pub read-spec : {M : Type 1} → statement M
 read-spec =
     tie.close
     (tie.spec
-    read-memory-requires
-    refused-requires
+    (λ c κs. search needs)
+    (λ c κs. search needs)
     returns
-    refused-requires-2
+    (λ c κs. search needs)
     returns-2
-    memory-fine-requires
-    refused-requires-3
+    (λ c κs. search needs)
+    (λ c κs. search needs)
     returns-3
     returns-4)

@@ -7,12 +7,6 @@ use borrow.Author.Needs.{needs}
 use Rattle.image.proofs.write.Statement.{statement}
 use Rattle.image.proofs.write.Tie as tie
 
-write-memory-requires : tie.Need-write-memory-requires
-write-memory-requires c κs = search needs
-
-same-length : tie.Need-same-length
-same-length c = search needs
-
 returns : tie.Need-returns
 returns c =
     let w = c .before .before in
@@ -20,4 +14,4 @@ returns c =
     wrote-front (image (memoryOf (s .args .m))) (s .args .out .now) _ _ (omega (arith, s .pre .2, fits (memoryOf (s .args .m)) (s .pre .1) .0)) (w .write-memory .ensures)
 
 pub write-spec : {M : Type 1} → statement M
-write-spec = tie.close (tie.spec write-memory-requires same-length returns)
+write-spec = tie.close (tie.spec (λ c κs. search needs) (λ c. search needs) returns)

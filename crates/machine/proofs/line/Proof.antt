@@ -6,25 +6,16 @@ use borrow.Author.Needs.{needs}
 use Rattle.machine.proofs.line.Statement.{statement}
 use Rattle.machine.proofs.line.Tie as tie
 
-state-fine-requires : tie.Need-state-fine-requires
-state-fine-requires c κs = search needs
-
 obey-requires : tie.Need-obey-requires
 obey-requires c κs =
     let start = c .before .before .before .before .before in
     fine-of (start .args .s) (sym (c .before .before .state-fine .ensures) ∙ c .before .if1 .taken)
-
-same-length : tie.Need-same-length
-same-length c = search needs
 
 returns : tie.Need-returns
 returns c =
     let start = c .before .before .before .before .before .before .before .before in
     let fine = fine-of (start .args .s) (sym (c .before .before .before .before .before .state-fine .ensures) ∙ c .before .before .before .before .if1 .taken) in
     c .before .before .obey .ensures ∙ sym (line-fine (start .args .s) fine (start .args .line .now) (start .args .reply .now))
-
-refusing-requires : tie.Need-refusing-requires
-refusing-requires c κs = search needs
 
 returns-2 : tie.Need-returns-2
 returns-2 c =
@@ -33,4 +24,4 @@ returns-2 c =
 
 pub line-spec : {M : Type 1} → statement M
 line-spec =
-    tie.close (tie.spec state-fine-requires obey-requires same-length returns refusing-requires returns-2)
+    tie.close (tie.spec (λ c κs. search needs) obey-requires (λ c. search needs) returns (λ c κs. search needs) returns-2)

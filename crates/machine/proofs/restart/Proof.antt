@@ -7,16 +7,10 @@ use borrow.Author.Needs.{needs}
 use Rattle.machine.proofs.restart.Statement.{statement}
 use Rattle.machine.proofs.restart.Tie as tie
 
-state-fine-requires : tie.Need-state-fine-requires
-state-fine-requires c κs = search needs
-
 returns : tie.Need-returns
 returns c =
     let s = c .before .before .args .s in
     sym (ill-restart s (sym (c .before .state-fine .ensures) ∙ not-true _ (c .if1 .taken)))
-
-started-requires : tie.Need-started-requires
-started-requires c κs = search needs
 
 returns-2 : tie.Need-returns-2
 returns-2 c =
@@ -25,4 +19,4 @@ returns-2 c =
     rw (c .started .ensures) (restart-taken s (fine-of s (sym (test .before .state-fine .ensures) ∙ not-false _ (test .if1 .left))))
 
 pub restart-spec : {M : Type 1} → statement M
-restart-spec = tie.close (tie.spec state-fine-requires returns started-requires returns-2)
+restart-spec = tie.close (tie.spec (λ c κs. search needs) returns (λ c κs. search needs) returns-2)

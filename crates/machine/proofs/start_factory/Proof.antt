@@ -7,16 +7,10 @@ use borrow.Author.Needs.{needs}
 use Rattle.machine.proofs.start_factory.Statement.{statement}
 use Rattle.machine.proofs.start_factory.Tie as tie
 
-factory-memory-requires : tie.Need-factory-memory-requires
-factory-memory-requires c κs = search needs
-
-started-requires : tie.Need-started-requires
-started-requires c κs = search needs
-
 returns : tie.Need-returns
 returns c =
     let made = c .before .factory-memory in
     rw (c .started .ensures) (start-holds (made .result) (made .ensures .1) ∙ ap (λ (n : Memory). holds (started n)) (made .ensures .0))
 
 pub start-factory-spec : {M : Type 1} → statement M
-start-factory-spec = tie.close (tie.spec factory-memory-requires started-requires returns)
+start-factory-spec = tie.close (tie.spec (λ c κs. search needs) (λ c κs. search needs) returns)

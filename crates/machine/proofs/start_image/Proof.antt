@@ -4,12 +4,6 @@ use borrow.Author.Needs.{needs}
 use Rattle.machine.proofs.start_image.Statement.{statement}
 use Rattle.machine.proofs.start_image.Tie as tie
 
-read-requires : tie.Need-read-requires
-read-requires c κs = search needs
-
-started-requires : tie.Need-started-requires
-started-requires c κs = search needs
-
 returns : tie.Need-returns
 returns c =
     let found = c .before .before .before .read in
@@ -21,4 +15,4 @@ returns-2 c =
     rw (c .before .started .ensures) (start-refused _ (found .result) (found .ensures) (c .if1 .left))
 
 pub start-image-spec : {M : Type 1} → statement M
-start-image-spec = tie.close (tie.spec read-requires started-requires returns returns-2)
+start-image-spec = tie.close (tie.spec (λ c κs. search needs) (λ c κs. search needs) returns returns-2)

@@ -15,20 +15,11 @@ use Rattle.machine.proofs.write_image.Lts as lts
 use Rattle.image.proofs.write.Reads as write-reads
 use Rattle.memory.proofs.fine.state_fine.Reads as state-fine-reads
 
-state-fine-requires : tie.Need-state-fine-requires
-state-fine-requires c κs = search needs
-
-refusing-requires : tie.Need-refusing-requires
-refusing-requires c κs = search needs
-
 returns : tie.Need-returns
 returns c =
     let test = c .before in
     let start = test .before .before .before in
     rw (c .refusing .ensures) (sym (ill-image (start .args .s) (sym (test .before .state-fine .ensures) ∙ not-true _ (test .if1 .taken)) (start .args .out .now)))
-
-refusing-requires-2 : tie.Need-refusing-requires-2
-refusing-requires-2 c κs = search needs
 
 returns-2 : tie.Need-returns-2
 unfolding short
@@ -44,9 +35,6 @@ write-requires c κs =
     let f = fine-of (start .args .s) (sym (c .before .before .before .before .state-fine .ensures) ∙ not-false _ (c .before .before .before .if1 .left)) in
     (shape-parts (start .args .s) (f .shape) .1, state-of (stateOf (start .args .s)) (f .formed) .permanent, c .before .before .if2 .left)
 
-same-length : tie.Need-same-length
-same-length c = search needs
-
 returns-3 : tie.Need-returns-3
 unfolding short
 returns-3 c =
@@ -58,11 +46,11 @@ pub write-image-spec : {M : Type 1} → statement M
 write-image-spec =
     tie.close
     (tie.spec
-    state-fine-requires
-    refusing-requires
+    (λ c κs. search needs)
+    (λ c κs. search needs)
     returns
-    refusing-requires-2
+    (λ c κs. search needs)
     returns-2
     write-requires
-    same-length
+    (λ c. search needs)
     returns-3)

@@ -5,14 +5,8 @@ use borrow.Author.Needs.{needs}
 use Rattle.print.proofs.put_four.Statement.{statement}
 use Rattle.print.proofs.put_four.Tie as tie
 
-put-two-requires : tie.Need-put-two-requires
-put-two-requires c κs = search needs
-
 put-two-requires-2 : tie.Need-put-two-requires-2
 put-two-requires-2 c κs = omega (arith, rw length-digits at (c .before .before .before .put-two .ensures .place))
-
-same-length : tie.Need-same-length
-same-length c = search needs
 
 returns : tie.Need-returns
 returns c =
@@ -21,4 +15,4 @@ returns c =
     wrote-digits 2 (j .before .before .before .args .n) 2 (j .put-two .ensures) (k .put-two2 .ensures)
 
 pub put-four-spec : {M : Type 1} → statement M
-put-four-spec = tie.close (tie.spec put-two-requires put-two-requires-2 same-length returns)
+put-four-spec = tie.close (tie.spec (λ c κs. search needs) put-two-requires-2 (λ c. search needs) returns)

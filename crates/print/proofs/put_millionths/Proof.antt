@@ -18,9 +18,6 @@ put-six-requires c κs =
     let d = b .before .before .before .before in
     omega (arith, length-millionths (d .before .before .before .args .m), b .put-byte .ensures .place)
 
-same-length : tie.Need-same-length
-same-length c = search needs
-
 returns : tie.Need-returns
 unfolding millionths joined
 returns c =
@@ -36,5 +33,5 @@ put-millionths-spec =
     put-decimal-requires
     put-byte-requires
     put-six-requires
-    same-length
+    (λ c. search needs)
     returns)

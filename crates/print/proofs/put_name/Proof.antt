@@ -6,9 +6,6 @@ use borrow.Author.Needs.{needs}
 use Rattle.print.proofs.put_name.Statement.{statement}
 use Rattle.print.proofs.put_name.Tie as tie
 
-cast-n : tie.Need-cast-n
-cast-n c = search needs
-
 array-share-prefix-bytes : tie.Need-array-share-prefix-bytes
 array-share-prefix-bytes c = let h : length (c .before .before .before .before .args .name .bytes) ≡ 16 = search needs in omega arith
 
@@ -18,22 +15,13 @@ slice-aggregate-put-text c =
     let h : length (n .bytes) ≡ 16 = search needs in
     sym (length-take-le (n .len) (n .bytes) (omega arith))
 
-put-text-requires : tie.Need-put-text-requires
-put-text-requires c κs = search needs
-
-same-length : tie.Need-same-length
-same-length c = search needs
-
-returns : tie.Need-returns
-returns c = search needs
-
 pub put-name-spec : {M : Type 1} → statement M
 put-name-spec =
     tie.close
     (tie.spec
-    cast-n
+    (λ c. search needs)
     array-share-prefix-bytes
     slice-aggregate-put-text
-    put-text-requires
-    same-length
-    returns)
+    (λ c κs. search needs)
+    (λ c. search needs)
+    (λ c. search needs))

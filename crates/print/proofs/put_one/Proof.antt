@@ -6,22 +6,10 @@ use borrow.Author.Needs.{needs}
 use Rattle.print.proofs.put_one.Statement.{statement}
 use Rattle.print.proofs.put_one.Tie as tie
 
-cast-put-byte : tie.Need-cast-put-byte
-cast-put-byte c = search needs
-
-add-put-byte : tie.Need-add-put-byte
-add-put-byte c = search needs
-
-put-byte-requires : tie.Need-put-byte-requires
-put-byte-requires c κs = search needs
-
-same-length : tie.Need-same-length
-same-length c = search needs
-
 returns : tie.Need-returns
 unfolding lastDigits
 returns c = let e : c .before .before .before .before .before .args .n / 1 ≡ c .before .before .before .before .before .args .n = omega arith in rw e (c .before .before .put-byte .ensures)
 
 pub put-one-spec : {M : Type 1} → statement M
 put-one-spec =
-    tie.close (tie.spec cast-put-byte add-put-byte put-byte-requires same-length returns)
+    tie.close (tie.spec (λ c. search needs) (λ c. search needs) (λ c κs. search needs) (λ c. search needs) returns)

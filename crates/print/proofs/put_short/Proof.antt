@@ -21,17 +21,11 @@ four c = decimal-digits 3 _ (omega arith) (omega arith)
 put-one-requires : tie.Need-put-one-requires
 put-one-requires c κs = omega (arith, length-decimal 1 _ (one (c .before)))
 
-same-length : tie.Need-same-length
-same-length c = search needs
-
 returns : tie.Need-returns
 returns c = let k = c .before .before in rw (one (k .before .before)) (k .put-one .ensures)
 
 put-two-requires : tie.Need-put-two-requires
 put-two-requires c κs = omega (arith, length-decimal 2 _ (two (c .before)))
-
-same-length-2 : tie.Need-same-length-2
-same-length-2 c = search needs
 
 returns-2 : tie.Need-returns-2
 returns-2 c = let k = c .before .before in rw (two (k .before .before)) (k .put-two .ensures)
@@ -39,17 +33,11 @@ returns-2 c = let k = c .before .before in rw (two (k .before .before)) (k .put-
 put-three-requires : tie.Need-put-three-requires
 put-three-requires c κs = omega (arith, length-decimal 3 _ (three (c .before)))
 
-same-length-3 : tie.Need-same-length-3
-same-length-3 c = search needs
-
 returns-3 : tie.Need-returns-3
 returns-3 c = let k = c .before .before in rw (three (k .before .before)) (k .put-three .ensures)
 
 put-four-requires : tie.Need-put-four-requires
 put-four-requires c κs = omega (arith, length-decimal 4 _ (four (c .before)))
-
-same-length-4 : tie.Need-same-length-4
-same-length-4 c = search needs
 
 returns-4 : tie.Need-returns-4
 returns-4 c = let k = c .before .before in rw (four (k .before .before)) (k .put-four .ensures)
@@ -59,14 +47,14 @@ put-short-spec =
     tie.close
     (tie.spec
     put-one-requires
-    same-length
+    (λ c. search needs)
     returns
     put-two-requires
-    same-length-2
+    (λ c. search needs)
     returns-2
     put-three-requires
-    same-length-3
+    (λ c. search needs)
     returns-3
     put-four-requires
-    same-length-4
+    (λ c. search needs)
     returns-4)

@@ -5,14 +5,8 @@ use borrow.Author.Needs.{needs}
 use Rattle.print.proofs.put_six.Statement.{statement}
 use Rattle.print.proofs.put_six.Tie as tie
 
-put-three-requires : tie.Need-put-three-requires
-put-three-requires c κs = search needs
-
 put-three-requires-2 : tie.Need-put-three-requires-2
 put-three-requires-2 c κs = omega (arith, rw length-digits at (c .before .before .before .put-three .ensures .place))
-
-same-length : tie.Need-same-length
-same-length c = search needs
 
 returns : tie.Need-returns
 returns c =
@@ -21,4 +15,4 @@ returns c =
     wrote-digits 3 (j .before .before .before .args .n) 3 (j .put-three .ensures) (k .put-three2 .ensures)
 
 pub put-six-spec : {M : Type 1} → statement M
-put-six-spec = tie.close (tie.spec put-three-requires put-three-requires-2 same-length returns)
+put-six-spec = tie.close (tie.spec (λ c κs. search needs) put-three-requires-2 (λ c. search needs) returns)

@@ -5,14 +5,8 @@ use borrow.Author.Needs.{needs}
 use Rattle.print.proofs.put_three.Statement.{statement}
 use Rattle.print.proofs.put_three.Tie as tie
 
-put-one-requires : tie.Need-put-one-requires
-put-one-requires c κs = search needs
-
 put-two-requires : tie.Need-put-two-requires
 put-two-requires c κs = omega (arith, rw length-digits at (c .before .before .before .put-one .ensures .place))
-
-same-length : tie.Need-same-length
-same-length c = search needs
 
 returns : tie.Need-returns
 returns c =
@@ -21,4 +15,4 @@ returns c =
     wrote-digits 2 (j .before .before .before .args .n) 1 (j .put-one .ensures) (k .put-two .ensures)
 
 pub put-three-spec : {M : Type 1} → statement M
-put-three-spec = tie.close (tie.spec put-one-requires put-two-requires same-length returns)
+put-three-spec = tie.close (tie.spec (λ c κs. search needs) put-two-requires (λ c. search needs) returns)

@@ -5,14 +5,8 @@ use borrow.Author.Needs.{needs}
 use Rattle.print.proofs.put_two.Statement.{statement}
 use Rattle.print.proofs.put_two.Tie as tie
 
-put-one-requires : tie.Need-put-one-requires
-put-one-requires c κs = search needs
-
 put-one-requires-2 : tie.Need-put-one-requires-2
 put-one-requires-2 c κs = omega (arith, rw length-digits at (c .before .before .before .put-one .ensures .place))
-
-same-length : tie.Need-same-length
-same-length c = search needs
 
 returns : tie.Need-returns
 returns c =
@@ -21,4 +15,4 @@ returns c =
     wrote-digits 1 (j .before .before .before .args .n) 1 (j .put-one .ensures) (k .put-one2 .ensures)
 
 pub put-two-spec : {M : Type 1} → statement M
-put-two-spec = tie.close (tie.spec put-one-requires put-one-requires-2 same-length returns)
+put-two-spec = tie.close (tie.spec (λ c κs. search needs) put-one-requires-2 (λ c. search needs) returns)

@@ -28,9 +28,6 @@ above c =
     let t : ltZ (s .args .z) (pos 0) ≡ false = rw (toZ-ofZ (s .fits .z)) at (c .if1 .left) in
     rw (size (c .before)) (value-above (s .args .z) t)
 
-magnitude-requires : tie.Need-magnitude-requires
-magnitude-requires c κs = search needs
-
 put-byte-requires : tie.Need-put-byte-requires
 put-byte-requires c κs = omega (arith, ap length (below (c .before)))
 
@@ -39,9 +36,6 @@ put-millionths-requires c κs =
     let p = c .before .before .before in
     let t = p .before .before in
     omega (arith, ap length (below t))
-
-same-length : tie.Need-same-length
-same-length c = search needs
 
 returns : tie.Need-returns
 returns c =
@@ -52,9 +46,6 @@ returns c =
 put-millionths-requires-2 : tie.Need-put-millionths-requires-2
 put-millionths-requires-2 c κs = omega (arith, ap length (above (c .before)))
 
-same-length-2 : tie.Need-same-length-2
-same-length-2 c = search needs
-
 returns-2 : tie.Need-returns-2
 returns-2 c = let m = c .before .before in rw (above (m .before .before)) (m .put-millionths2 .ensures)
 
@@ -62,11 +53,11 @@ pub put-value-spec : {M : Type 1} → statement M
 put-value-spec =
     tie.close
     (tie.spec
-    magnitude-requires
+    (λ c κs. search needs)
     put-byte-requires
     put-millionths-requires
-    same-length
+    (λ c. search needs)
     returns
     put-millionths-requires-2
-    same-length-2
+    (λ c. search needs)
     returns-2)

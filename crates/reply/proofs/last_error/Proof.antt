@@ -19,9 +19,6 @@ put-decimal-requires c κs = omega (arith, short (c .before .before))
 put-byte-requires : tie.Need-put-byte-requires
 put-byte-requires c κs = omega (arith, short (c .before .before .before .before .before .before))
 
-same-length : tie.Need-same-length
-same-length c = search needs
-
 returns : tie.Need-returns
 returns c =
     let e = c .before .before in
@@ -30,4 +27,4 @@ returns c =
     replied (rw length-append (omega (arith, s .pre, short (s)))) (wrote-then (d .put-decimal .ensures) (e .put-byte .ensures))
 
 pub last-error-spec : {M : Type 1} → statement M
-last-error-spec = tie.close (tie.spec put-decimal-requires put-byte-requires same-length returns)
+last-error-spec = tie.close (tie.spec put-decimal-requires put-byte-requires (λ c. search needs) returns)

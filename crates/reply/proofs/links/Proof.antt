@@ -30,12 +30,6 @@ long s = search (length-mapped, needs)
 within : (c : tie.In-loop Inv-loop μ-loop) → c .before .loop .i < 16
 within c = let s = c .before .before .before .before .before .before .before .before in omega (arith, few (s .args .t1) (s .pre .0 .shape) (long s), c .loop-test .taken)
 
-cast-count : tie.Need-cast-count Inv-loop μ-loop
-cast-count c = search needs
-
-element-copy-out-first : tie.Need-element-copy-out-first Inv-loop μ-loop
-element-copy-out-first c = omega arith
-
 put-fixed-links-requires : tie.Need-put-fixed-links-requires Inv-loop μ-loop
 put-fixed-links-requires c κs = let s = c .before .before .before in omega (arith, plan-room (links-plan (s .args .t1) (s .pre .0) (s .args .reply .now) (s .pre .1) (long s)))
 
@@ -50,9 +44,6 @@ mul-s c = omega (arith, within c)
 
 element-copy-out-s : tie.Need-element-copy-out-s Inv-loop μ-loop
 element-copy-out-s c = omega (arith, within c)
-
-slot-requires : tie.Need-slot-requires Inv-loop μ-loop
-slot-requires c κs = search needs
 
 -- and so is the predecessor's
 slot-within : (c : tie.After-slot Inv-loop μ-loop) → (c .slot .result < c .before .before .before .before .before .before .before .before .before .before .args .t1 .count) × (c .slot .result < 16)
@@ -74,12 +65,6 @@ sub-put-further-link c = omega (arith, going-within (c .before .before .before .
 
 part-put-further-link-start : tie.Need-part-put-further-link-start Inv-loop μ-loop
 part-put-further-link-start c = omega (arith, going-within (c .before .before .before .before .loop .inv))
-
-part-put-further-link-end : tie.Need-part-put-further-link-end Inv-loop μ-loop
-part-put-further-link-end c = omega arith
-
-add-put-further-link : tie.Need-add-put-further-link Inv-loop μ-loop
-add-put-further-link c = search needs
 
 put-further-link-requires : tie.Need-put-further-link-requires Inv-loop μ-loop
 put-further-link-requires c κs =
@@ -106,12 +91,6 @@ add-at c =
     let n = going-on (l .loop .inv) (c .before .before .before .before .before .before .before .loop-test .taken) (wrote (c .before .before) .place) in
     record { fits = omega (arith, n, l .loop .inv .long, f .put-fixed-links .kept .0, f .before .before .before .before .good .1 .0 .0) }
 
-add-i : tie.Need-add-i Inv-loop μ-loop
-add-i c = search needs
-
-loop-less : tie.Need-loop-less Inv-loop μ-loop
-loop-less c = search needs
-
 loop-again : tie.Need-loop-again Inv-loop μ-loop
 loop-again c = going-turn (c .before .before .before .before .before .before .before .before .loop .inv) (c .before .before .before .before .before .before .before .loop-test .taken) (wrote (c .before .before))
 
@@ -135,23 +114,23 @@ links-spec =
     (tie.spec
     Inv-loop
     μ-loop
-    cast-count
-    element-copy-out-first
+    (λ c. search needs)
+    (λ c. omega arith)
     put-fixed-links-requires
     loop-holds
     mul-s
     element-copy-out-s
-    slot-requires
+    (λ c κs. search needs)
     mul-p
     element-copy-out-p
     sub-put-further-link
     part-put-further-link-start
-    part-put-further-link-end
-    add-put-further-link
+    (λ c. omega arith)
+    (λ c. search needs)
     put-further-link-requires
     add-at
-    add-i
-    loop-less
+    (λ c. search needs)
+    (λ c. search needs)
     loop-again
     put-byte-requires
     same-length

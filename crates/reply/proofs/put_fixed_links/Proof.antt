@@ -17,9 +17,6 @@ sub-put-further-link c = omega (arith, length-fixed (linkLine []))
 part-put-further-link-start : tie.Need-part-put-further-link-start
 part-put-further-link-start c = omega (arith, length-fixed (linkLine []))
 
-part-put-further-link-end : tie.Need-part-put-further-link-end
-part-put-further-link-end c = search needs
-
 put-further-link-requires : tie.Need-put-further-link-requires
 put-further-link-requires c κs = (λ h. absurd (omega arith), rw (length-take, length-drop) (omega (arith, length-fixed (linkLine []))))
 
@@ -32,17 +29,11 @@ sub-put-further-link-2 c = omega (arith, length-fixed (linkLine []))
 part-put-further-link-start-2 : tie.Need-part-put-further-link-start-2
 part-put-further-link-start-2 c = omega (arith, length-fixed (linkLine []))
 
-part-put-further-link-end-2 : tie.Need-part-put-further-link-end-2
-part-put-further-link-end-2 c = search needs
-
 put-further-link-requires-2 : tie.Need-put-further-link-requires-2
 put-further-link-requires-2 c κs = (λ h. absurd (omega arith), rw (length-take, length-drop) (omega (arith, length-fixed (linkLine []))))
 
 add-result : tie.Need-add-result
 add-result c = omega (arith, length-fixed (linkLine []))
-
-same-length : tie.Need-same-length
-same-length c = search needs
 
 returns : tie.Need-returns
 returns c =
@@ -59,13 +50,13 @@ put-fixed-links-spec =
     put-link-requires
     sub-put-further-link
     part-put-further-link-start
-    part-put-further-link-end
+    (λ c. search needs)
     put-further-link-requires
     add-i
     sub-put-further-link-2
     part-put-further-link-start-2
-    part-put-further-link-end-2
+    (λ c. search needs)
     put-further-link-requires-2
     add-result
-    same-length
+    (λ c. search needs)
     returns)

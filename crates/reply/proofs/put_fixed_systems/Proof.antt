@@ -17,9 +17,6 @@ sub-put-further-system c = omega (arith, length-fixed (systemLine []))
 part-put-further-system-start : tie.Need-part-put-further-system-start
 part-put-further-system-start c = omega (arith, length-fixed (systemLine []))
 
-part-put-further-system-end : tie.Need-part-put-further-system-end
-part-put-further-system-end c = search needs
-
 put-further-system-requires : tie.Need-put-further-system-requires
 put-further-system-requires c κs = (λ h. absurd (omega arith), rw (length-take, length-drop) (omega (arith, length-fixed (systemLine []))))
 
@@ -32,17 +29,11 @@ sub-put-further-system-2 c = omega (arith, length-fixed (systemLine []))
 part-put-further-system-start-2 : tie.Need-part-put-further-system-start-2
 part-put-further-system-start-2 c = omega (arith, length-fixed (systemLine []))
 
-part-put-further-system-end-2 : tie.Need-part-put-further-system-end-2
-part-put-further-system-end-2 c = search needs
-
 put-further-system-requires-2 : tie.Need-put-further-system-requires-2
 put-further-system-requires-2 c κs = (λ h. absurd (omega arith), rw (length-take, length-drop) (omega (arith, length-fixed (systemLine []))))
 
 add-result : tie.Need-add-result
 add-result c = omega (arith, length-fixed (systemLine []))
-
-same-length : tie.Need-same-length
-same-length c = search needs
 
 returns : tie.Need-returns
 returns c =
@@ -59,13 +50,13 @@ put-fixed-systems-spec =
     put-system-requires
     sub-put-further-system
     part-put-further-system-start
-    part-put-further-system-end
+    (λ c. search needs)
     put-further-system-requires
     add-i
     sub-put-further-system-2
     part-put-further-system-start-2
-    part-put-further-system-end-2
+    (λ c. search needs)
     put-further-system-requires-2
     add-result
-    same-length
+    (λ c. search needs)
     returns)

@@ -30,12 +30,6 @@ long s = search (length-mapped, needs)
 within : (c : tie.In-loop Inv-loop μ-loop) → c .before .loop .i < 16
 within c = let s = c .before .before .before .before .before .before .before .before in omega (arith, few (s .args .t1) (s .pre .0 .shape) (long s), c .loop-test .taken)
 
-cast-count : tie.Need-cast-count Inv-loop μ-loop
-cast-count c = search needs
-
-element-copy-out-first : tie.Need-element-copy-out-first Inv-loop μ-loop
-element-copy-out-first c = omega arith
-
 put-fixed-systems-requires : tie.Need-put-fixed-systems-requires Inv-loop μ-loop
 put-fixed-systems-requires c κs = let s = c .before .before .before in omega (arith, plan-room (systems-plan (s .args .t1) (s .pre .0) (s .args .reply .now) (s .pre .1) (long s)))
 
@@ -56,12 +50,6 @@ sub-put-further-system c = omega (arith, going-within (c .before .before .loop .
 
 part-put-further-system-start : tie.Need-part-put-further-system-start Inv-loop μ-loop
 part-put-further-system-start c = omega (arith, going-within (c .before .before .loop .inv))
-
-part-put-further-system-end : tie.Need-part-put-further-system-end Inv-loop μ-loop
-part-put-further-system-end c = omega arith
-
-add-put-further-system : tie.Need-add-put-further-system Inv-loop μ-loop
-add-put-further-system c = search needs
 
 put-further-system-requires : tie.Need-put-further-system-requires Inv-loop μ-loop
 put-further-system-requires c κs =
@@ -87,12 +75,6 @@ add-at c =
     let n = going-on (l .loop .inv) (c .before .before .before .before .before .loop-test .taken) (wrote (c .before .before) .place) in
     record { fits = omega (arith, n, l .loop .inv .long, f .put-fixed-systems .kept .0, f .before .before .before .before .good .1 .0 .0) }
 
-add-i : tie.Need-add-i Inv-loop μ-loop
-add-i c = search needs
-
-loop-less : tie.Need-loop-less Inv-loop μ-loop
-loop-less c = search needs
-
 loop-again : tie.Need-loop-again Inv-loop μ-loop
 loop-again c = going-turn (c .before .before .before .before .before .before .loop .inv) (c .before .before .before .before .before .loop-test .taken) (wrote (c .before .before))
 
@@ -116,20 +98,20 @@ systems-spec =
     (tie.spec
     Inv-loop
     μ-loop
-    cast-count
-    element-copy-out-first
+    (λ c. search needs)
+    (λ c. omega arith)
     put-fixed-systems-requires
     loop-holds
     mul-s
     element-copy-out-s
     sub-put-further-system
     part-put-further-system-start
-    part-put-further-system-end
-    add-put-further-system
+    (λ c. omega arith)
+    (λ c. search needs)
     put-further-system-requires
     add-at
-    add-i
-    loop-less
+    (λ c. search needs)
+    (λ c. search needs)
     loop-again
     put-byte-requires
     same-length

@@ -30,9 +30,6 @@ by-first n =
     ⊎-elim (λ h. ap (λ (v : List ℕ). readBy commands v args) (h .1) ∙ by-none args ∙ sym (ap readWords (h .0))) (λ h. sym (ap readWords h))
     (left (Line n) 0 w (n .next-word .ensures))
 
-next-word-requires : tie.Need-next-word-requires
-next-word-requires c κs = search needs
-
 form-of-requires : tie.Need-form-of-requires
 form-of-requires c κs = within c
 
@@ -43,4 +40,4 @@ returns : tie.Need-returns
 returns c = says-as (c .arguments .ensures) (c .before .form-of .ensures _ ∙ by-first (c .before .before))
 
 pub read-spec : {M : Type 1} → statement M
-read-spec = tie.close (tie.spec next-word-requires form-of-requires arguments-requires returns)
+read-spec = tie.close (tie.spec (λ c κs. search needs) form-of-requires arguments-requires returns)

@@ -45,8 +45,5 @@ cast-result-2 c =
     let z = c .before .args .z in
     rw (toZ-ofZ f) (rw (sign-over z (rw (toZ-ofZ f) at (c .if1 .left))) tt, magnitude-fits z f)
 
-returns-2 : tie.Need-returns-2
-returns-2 c = search needs
-
 pub magnitude-spec : {M : Type 1} → statement M
-magnitude-spec = tie.close (tie.spec add-m sub-m cast-result add-result returns cast-result-2 returns-2)
+magnitude-spec = tie.close (tie.spec add-m sub-m cast-result add-result returns cast-result-2 (λ c. search needs))

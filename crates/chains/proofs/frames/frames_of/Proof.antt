@@ -23,65 +23,8 @@ Inv-loop m count offsets₀ turns₀ i₀ offsets turns i =
 abbrev μ-loop : tie.MeasureT-loop
 μ-loop m count offsets₀ turns₀ i₀ offsets turns i = count - i
 
-held-requires : tie.Need-held-requires Inv-loop μ-loop
-held-requires c κs = tt
-
 loop-holds : tie.Need-loop-holds Inv-loop μ-loop
 loop-holds c = (omega arith, refl, refl, λ j h. absurd (omega arith), λ j h. absurd (omega arith))
-
-mul-s : tie.Need-mul-s Inv-loop μ-loop
-mul-s c = omega arith
-
-element-copy-out-s : tie.Need-element-copy-out-s Inv-loop μ-loop
-element-copy-out-s c = omega arith
-
-mul-at : tie.Need-mul-at Inv-loop μ-loop
-mul-at c = omega arith
-
-mul-offsets : tie.Need-mul-offsets Inv-loop μ-loop
-mul-offsets c = omega arith
-
-array-set-from-offsets : tie.Need-array-set-from-offsets Inv-loop μ-loop
-array-set-from-offsets c = omega arith
-
-add-offsets : tie.Need-add-offsets Inv-loop μ-loop
-add-offsets c = omega arith
-
-mul-offsets-2 : tie.Need-mul-offsets-2 Inv-loop μ-loop
-mul-offsets-2 c = omega arith
-
-array-set-from-offsets-2 : tie.Need-array-set-from-offsets-2 Inv-loop μ-loop
-array-set-from-offsets-2 c = omega arith
-
-add-offsets-2 : tie.Need-add-offsets-2 Inv-loop μ-loop
-add-offsets-2 c = omega arith
-
-mul-offsets-3 : tie.Need-mul-offsets-3 Inv-loop μ-loop
-mul-offsets-3 c = omega arith
-
-array-set-from-offsets-3 : tie.Need-array-set-from-offsets-3 Inv-loop μ-loop
-array-set-from-offsets-3 c = omega arith
-
-array-write-turns : tie.Need-array-write-turns Inv-loop μ-loop
-array-write-turns c = omega arith
-
-add-turns : tie.Need-add-turns Inv-loop μ-loop
-add-turns c = omega arith
-
-array-write-turns-2 : tie.Need-array-write-turns-2 Inv-loop μ-loop
-array-write-turns-2 c = omega arith
-
-add-turns-2 : tie.Need-add-turns-2 Inv-loop μ-loop
-add-turns-2 c = omega arith
-
-array-write-turns-3 : tie.Need-array-write-turns-3 Inv-loop μ-loop
-array-write-turns-3 c = omega arith
-
-add-i : tie.Need-add-i Inv-loop μ-loop
-add-i c = omega arith
-
-loop-less : tie.Need-loop-less Inv-loop μ-loop
-loop-less c = omega arith
 
 loop-again : tie.Need-loop-again Inv-loop μ-loop
 loop-again c =
@@ -116,25 +59,25 @@ frames-of-spec =
     (tie.spec
     Inv-loop
     μ-loop
-    held-requires
+    (λ c κs. tt)
     loop-holds
-    mul-s
-    element-copy-out-s
-    mul-at
-    mul-offsets
-    array-set-from-offsets
-    add-offsets
-    mul-offsets-2
-    array-set-from-offsets-2
-    add-offsets-2
-    mul-offsets-3
-    array-set-from-offsets-3
-    array-write-turns
-    add-turns
-    array-write-turns-2
-    add-turns-2
-    array-write-turns-3
-    add-i
-    loop-less
+    (λ c. omega arith)
+    (λ c. omega arith)
+    (λ c. omega arith)
+    (λ c. omega arith)
+    (λ c. omega arith)
+    (λ c. omega arith)
+    (λ c. omega arith)
+    (λ c. omega arith)
+    (λ c. omega arith)
+    (λ c. omega arith)
+    (λ c. omega arith)
+    (λ c. omega arith)
+    (λ c. omega arith)
+    (λ c. omega arith)
+    (λ c. omega arith)
+    (λ c. omega arith)
+    (λ c. omega arith)
+    (λ c. omega arith)
     loop-again
     returns)

@@ -2,11 +2,8 @@ use borrow.Author.Needs.{needs}
 use Rattle.chains.proofs.frames.unmoved.Statement.{statement}
 use Rattle.chains.proofs.frames.unmoved.Tie as tie
 
-neutral-requires : tie.Need-neutral-requires
-neutral-requires c κs = search needs
-
 returns : tie.Need-returns
 returns c = λ i. record { pose = c .neutral .ensures i; steps = 0 }
 
 pub unmoved-spec : {M : Type 1} → statement M
-unmoved-spec = tie.close (tie.spec neutral-requires returns)
+unmoved-spec = tie.close (tie.spec (λ c κs. search needs) returns)

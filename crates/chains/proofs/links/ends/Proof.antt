@@ -26,15 +26,6 @@ returns c =
     let w = c .before .before .loop in
     sym (eq-eqb _ _ (sym (w .inv) ∙ hop-ended (linkedBy (s .preds .now)) (w .left) (w .at) (c .if1 .taken)))
 
-pred-of-requires : tie.Need-pred-of-requires Inv-loop μ-loop
-pred-of-requires c κs = tt
-
-sub-left : tie.Need-sub-left Inv-loop μ-loop
-sub-left c = omega arith
-
-loop-less : tie.Need-loop-less Inv-loop μ-loop
-loop-less c = omega arith
-
 loop-again : tie.Need-loop-again Inv-loop μ-loop
 loop-again c =
     let s = c .before .before .before .before .before .args in
@@ -56,8 +47,8 @@ ends-spec =
     μ-loop
     loop-holds
     returns
-    pred-of-requires
-    sub-left
-    loop-less
+    (λ c κs. tt)
+    (λ c. omega arith)
+    (λ c. omega arith)
     loop-again
     returns-2)

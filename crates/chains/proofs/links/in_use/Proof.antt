@@ -3,22 +3,13 @@ use Rattle.chains.proofs.Used.{used-parts}
 use Rattle.chains.proofs.links.in_use.Statement.{statement}
 use Rattle.chains.proofs.links.in_use.Tie as tie
 
-used-operating-requires : tie.Need-used-operating-requires
-used-operating-requires c κs = search needs
-
 returns : tie.Need-returns
 returns c = let s = c .before .before .before .args in rw (used-parts (s .preds .now) (s .k), ← c .before .used-operating .ensures, c .if1 .taken)
-
-used-by-requires : tie.Need-used-by-requires
-used-by-requires c κs = search needs
 
 returns-2 : tie.Need-returns-2
 returns-2 c =
     let s = c .before .before .before .before .before .args in
     rw (used-parts (s .preds .now) (s .k), ← c .before .before .before .used-operating .ensures, c .before .before .if1 .left, ← c .before .used-by .ensures, c .if2 .taken)
-
-used-by-requires-2 : tie.Need-used-by-requires-2
-used-by-requires-2 c κs = search needs
 
 returns-3 : tie.Need-returns-3
 returns-3 c =
@@ -30,9 +21,9 @@ pub in-use-spec : {M : Type 1} → statement M
 in-use-spec =
     tie.close
     (tie.spec
-    used-operating-requires
+    (λ c κs. search needs)
     returns
-    used-by-requires
+    (λ c κs. search needs)
     returns-2
-    used-by-requires-2
+    (λ c κs. search needs)
     returns-3)

@@ -19,26 +19,8 @@ Inv-loop m count preds₀ i₀ preds i = (i ≤ maxSystems) × (length preds ≡
 abbrev μ-loop : tie.MeasureT-loop
 μ-loop m count preds₀ i₀ preds i = maxSystems - i
 
-held-requires : tie.Need-held-requires Inv-loop μ-loop
-held-requires c κs = tt
-
 loop-holds : tie.Need-loop-holds Inv-loop μ-loop
 loop-holds c = (omega arith, refl, refl)
-
-mul-preds : tie.Need-mul-preds Inv-loop μ-loop
-mul-preds c = omega arith
-
-element-copy-out-preds : tie.Need-element-copy-out-preds Inv-loop μ-loop
-element-copy-out-preds c = omega arith
-
-array-write-preds : tie.Need-array-write-preds Inv-loop μ-loop
-array-write-preds c = omega arith
-
-add-i : tie.Need-add-i Inv-loop μ-loop
-add-i c = omega arith
-
-loop-less : tie.Need-loop-less Inv-loop μ-loop
-loop-less c = omega arith
 
 loop-again : tie.Need-loop-again Inv-loop μ-loop
 loop-again c =
@@ -66,12 +48,12 @@ links-of-spec =
     (tie.spec
     Inv-loop
     μ-loop
-    held-requires
+    (λ c κs. tt)
     loop-holds
-    mul-preds
-    element-copy-out-preds
-    array-write-preds
-    add-i
-    loop-less
+    (λ c. omega arith)
+    (λ c. omega arith)
+    (λ c. omega arith)
+    (λ c. omega arith)
+    (λ c. omega arith)
     loop-again
     returns)

@@ -20,20 +20,11 @@ abbrev μ-loop : tie.MeasureT-loop
 loop-holds : tie.Need-loop-holds Inv-loop μ-loop
 loop-holds c = (omega arith, λ q h. absurd (omega arith))
 
-ends-requires : tie.Need-ends-requires Inv-loop μ-loop
-ends-requires c κs = tt
-
 returns : tie.Need-returns Inv-loop μ-loop
 returns c =
     let s = c .before .before .before .before .before .args in
     let w = c .before .before .before .loop in
     sym (ring-by (s .preds .now) (w .place) (omega arith) (eqb-false _ _ (sym (c .before .ends .ensures) ∙ not-true _ (c .if1 .taken))))
-
-add-place : tie.Need-add-place Inv-loop μ-loop
-add-place c = omega arith
-
-loop-less : tie.Need-loop-less Inv-loop μ-loop
-loop-less c = omega arith
 
 loop-again : tie.Need-loop-again Inv-loop μ-loop
 loop-again c =
@@ -52,9 +43,9 @@ no-ring-spec =
     Inv-loop
     μ-loop
     loop-holds
-    ends-requires
+    (λ c κs. tt)
     returns
-    add-place
-    loop-less
+    (λ c. omega arith)
+    (λ c. omega arith)
     loop-again
     returns-2)

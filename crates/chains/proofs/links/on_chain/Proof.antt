@@ -13,9 +13,6 @@ Inv-loop preds a q at₀ more₀ at more = met (linkedBy preds) a more at ≡ on
 abbrev μ-loop : tie.MeasureT-loop
 μ-loop preds a q at₀ more₀ at more = more
 
-add-more : tie.Need-add-more Inv-loop μ-loop
-add-more c = omega arith
-
 loop-holds : tie.Need-loop-holds Inv-loop μ-loop
 loop-holds c = let s = c .before .args in met-all (s .preds .now) (s .a) (s .q)
 
@@ -25,20 +22,11 @@ returns c =
     let w = c .before .before .loop in
     sym (met-ended (linkedBy (s .preds .now)) (s .a) (w .more) (w .at) (c .if1 .taken)) ∙ w .inv
 
-pred-of-requires : tie.Need-pred-of-requires Inv-loop μ-loop
-pred-of-requires c κs = tt
-
 returns-2 : tie.Need-returns-2 Inv-loop μ-loop
 returns-2 c =
     let s = c .before .before .before .before .before .before .args in
     let w = c .before .before .before .before .loop in
     sym (met-hit (linkedBy (s .preds .now)) (s .a) (w .more) (w .at) _ (omega arith) (c .before .before .if1 .left) (c .before .pred-of .ensures) (c .if2 .taken)) ∙ w .inv
-
-sub-more : tie.Need-sub-more Inv-loop μ-loop
-sub-more c = omega arith
-
-loop-less : tie.Need-loop-less Inv-loop μ-loop
-loop-less c = omega arith
 
 loop-again : tie.Need-loop-again Inv-loop μ-loop
 loop-again c =
@@ -58,12 +46,12 @@ on-chain-spec =
     (tie.spec
     Inv-loop
     μ-loop
-    add-more
+    (λ c. omega arith)
     loop-holds
     returns
-    pred-of-requires
+    (λ c κs. tt)
     returns-2
-    sub-more
-    loop-less
+    (λ c. omega arith)
+    (λ c. omega arith)
     loop-again
     returns-3)

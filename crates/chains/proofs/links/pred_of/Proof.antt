@@ -11,12 +11,6 @@ use Rattle.chains.proofs.links.pred_of.Tie as tie
 returns : tie.Need-returns
 returns c = sym (pred-fixed (linkedBy (c .before .args .preds .now)) _ (c .if1 .taken))
 
-sub-i : tie.Need-sub-i
-sub-i c = search needs
-
-shared-slice-read-result : tie.Need-shared-slice-read-result
-shared-slice-read-result c = search needs
-
 cast-result : tie.Need-cast-result
 cast-result c = omega (arith, c .shared-slice-known .given (c .before .before .before .args .place - 1))
 
@@ -30,4 +24,4 @@ returns-3 c =
 
 pub pred-of-spec : {M : Type 1} → statement M
 pred-of-spec =
-    tie.close (tie.spec returns sub-i shared-slice-read-result cast-result returns-2 returns-3)
+    tie.close (tie.spec returns (λ c. search needs) (λ c. search needs) cast-result returns-2 returns-3)

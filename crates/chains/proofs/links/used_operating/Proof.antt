@@ -3,24 +3,9 @@ use Rattle.chains.proofs.Used.{single-used, pair-used}
 use Rattle.chains.proofs.links.used_operating.Statement.{statement}
 use Rattle.chains.proofs.links.used_operating.Tie as tie
 
-enum-known-part : tie.Need-enum-known-part
-enum-known-part c = search needs
-
-used-by-requires : tie.Need-used-by-requires
-used-by-requires c κs = search needs
-
-enum-known-part-2 : tie.Need-enum-known-part-2
-enum-known-part-2 c = search needs
-
-used-by-requires-2 : tie.Need-used-by-requires-2
-used-by-requires-2 c κs = search needs
-
 returns : tie.Need-returns
 returns c =
     rw (c .before .before .before .part2 .given .1, pair-used, ← c .before .used-by2 .ensures, c .if1 .taken)
-
-used-by-requires-3 : tie.Need-used-by-requires-3
-used-by-requires-3 c κs = search needs
 
 returns-2 : tie.Need-returns-2
 returns-2 c = rw (c .before .before .part .given .1, single-used) (c .used-by .ensures)
@@ -34,11 +19,11 @@ pub used-operating-spec : {M : Type 1} → statement M
 used-operating-spec =
     tie.close
     (tie.spec
-    enum-known-part
-    used-by-requires
-    enum-known-part-2
-    used-by-requires-2
+    (λ c. search needs)
+    (λ c κs. search needs)
+    (λ c. search needs)
+    (λ c κs. search needs)
     returns
-    used-by-requires-3
+    (λ c κs. search needs)
     returns-2
     returns-3)

@@ -14,43 +14,13 @@ use Rattle.commands.proofs.changed.applied.Tie as tie
 kept : (s : StoredState) (m : StoredMemory) → shaped s ≡ true → memoryShaped m ≡ true → shaped (record { volatile = m; permanent = s .permanent; level = s .level; error = s .error }) ≡ true
 kept s m h v = shape-both _ v (shape-parts s h .1)
 
-enum-told : tie.Need-enum-told
-enum-told c = search needs
-
-enum-known-deed : tie.Need-enum-known-deed
-enum-known-deed c = search needs
-
-enum-known-deed-2 : tie.Need-enum-known-deed-2
-enum-known-deed-2 c = search needs
-
 put-at-requires : tie.Need-put-at-requires
 unfolding Fits
 put-at-requires c κs = rw (c .before .deed2 .given .1) at (c .before .before .before .before .before .pre .fits)
 
-enum-known-deed-3 : tie.Need-enum-known-deed-3
-enum-known-deed-3 c = search needs
-
 removed-at-requires : tie.Need-removed-at-requires
 unfolding Fits
 removed-at-requires c κs = rw (c .before .deed3 .given .1) at (c .before .before .before .before .before .pre .fits)
-
-enum-known-deed-4 : tie.Need-enum-known-deed-4
-enum-known-deed-4 c = search needs
-
-enum-known-deed-5 : tie.Need-enum-known-deed-5
-enum-known-deed-5 c = search needs
-
-enum-told-2 : tie.Need-enum-told-2
-enum-told-2 c = search needs
-
-enum-told-3 : tie.Need-enum-told-3
-enum-told-3 c = search needs
-
-enum-told-4 : tie.Need-enum-told-4
-enum-told-4 c = search needs
-
-factory-memory-requires : tie.Need-factory-memory-requires
-factory-memory-requires c κs = search needs
 
 returns : tie.Need-returns
 unfolding done
@@ -102,18 +72,18 @@ pub applied-spec : {M : Type 1} → statement M
 applied-spec =
     tie.close
     (tie.spec
-    enum-told
-    enum-known-deed
-    enum-known-deed-2
+    (λ c. search needs)
+    (λ c. search needs)
+    (λ c. search needs)
     put-at-requires
-    enum-known-deed-3
+    (λ c. search needs)
     removed-at-requires
-    enum-known-deed-4
-    enum-known-deed-5
-    enum-told-2
-    enum-told-3
-    enum-told-4
-    factory-memory-requires
+    (λ c. search needs)
+    (λ c. search needs)
+    (λ c. search needs)
+    (λ c. search needs)
+    (λ c. search needs)
+    (λ c κs. search needs)
     returns
     returns-2
     returns-3

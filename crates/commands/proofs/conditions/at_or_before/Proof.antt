@@ -13,9 +13,6 @@ returns-2 : tie.Need-returns-2
 unfolding atOrBefore
 returns-2 c = let a = c .before .before .before .args in rw (lt-ltb 0 (a .place) (omega arith), eq-eqb (a .place) (a .other) (c .if2 .taken))
 
-on-chain-requires : tie.Need-on-chain-requires
-on-chain-requires c κs = search needs
-
 returns-3 : tie.Need-returns-3
 unfolding atOrBefore
 returns-3 c =
@@ -23,4 +20,4 @@ returns-3 c =
     rw (lt-ltb 0 (a .place) (omega arith), ne-eqb (a .place) (a .other) (c .before .if2 .left)) (c .on-chain .ensures)
 
 pub at-or-before-spec : {M : Type 1} → statement M
-at-or-before-spec = tie.close (tie.spec returns returns-2 on-chain-requires returns-3)
+at-or-before-spec = tie.close (tie.spec returns returns-2 (λ c κs. search needs) returns-3)

@@ -13,12 +13,6 @@ array-share-prefix-preds c = let h : length (c .before .args .links .preds) ≡ 
 slice-aggregate-flat : tie.Need-slice-aggregate-flat
 slice-aggregate-flat c = let h : length (c .before .before .args .links .preds) ≡ maxSystems = search needs in simp length-take (omega (arith, c .before .before .pre))
 
-used-requires : tie.Need-used-requires
-used-requires c κs = search needs
-
-at-or-before-requires : tie.Need-at-or-before-requires
-at-or-before-requires c κs = search needs
-
 returns : tie.Need-returns
 returns c =
     let a = c .before .before .before .before .args in
@@ -30,6 +24,6 @@ ties-of-spec =
     (tie.spec
     array-share-prefix-preds
     slice-aggregate-flat
-    used-requires
-    at-or-before-requires
+    (λ c κs. search needs)
+    (λ c κs. search needs)
     returns)

@@ -9,12 +9,9 @@ returns : tie.Need-returns
 unfolding usedAt
 returns c = rw (c .if1 .taken)
 
-in-use-requires : tie.Need-in-use-requires
-in-use-requires c κs = search needs
-
 returns-2 : tie.Need-returns-2
 unfolding usedAt
 returns-2 c = rw (lt-ltb 0 (c .before .before .before .args .place) (omega arith)) (c .in-use .ensures)
 
 pub used-spec : {M : Type 1} → statement M
-used-spec = tie.close (tie.spec returns in-use-requires returns-2)
+used-spec = tie.close (tie.spec returns (λ c κs. search needs) returns-2)

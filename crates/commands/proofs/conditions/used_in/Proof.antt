@@ -13,9 +13,6 @@ array-share-prefix-preds c = let h : length (c .before .args .links .preds) ≡ 
 slice-aggregate-used : tie.Need-slice-aggregate-used
 slice-aggregate-used c = let h : length (c .before .before .args .links .preds) ≡ maxSystems = search needs in simp length-take (omega (arith, c .before .before .pre))
 
-used-requires : tie.Need-used-requires
-used-requires c κs = search needs
-
 returns : tie.Need-returns
 returns c = let a = c .before .before .before .args in λ l p. c .used .ensures ∙ flat-used l _ (p .links) (a .e) (a .place)
 
@@ -25,5 +22,5 @@ used-in-spec =
     (tie.spec
     array-share-prefix-preds
     slice-aggregate-used
-    used-requires
+    (λ c κs. search needs)
     returns)

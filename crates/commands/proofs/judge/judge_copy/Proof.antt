@@ -9,21 +9,6 @@ use Rattle.memory.specs.Put.{holding}
 use Rattle.commands.proofs.judge.judge_copy.Statement.{statement}
 use Rattle.commands.proofs.judge.judge_copy.Tie as tie
 
-ties-of-requires : tie.Need-ties-of-requires
-ties-of-requires c κs = search needs
-
-locked-requires : tie.Need-locked-requires
-locked-requires c κs = search needs
-
-other-type-requires : tie.Need-other-type-requires
-other-type-requires c κs = search needs
-
-no-room-requires : tie.Need-no-room-requires
-no-room-requires c κs = search needs
-
-first-number-requires : tie.Need-first-number-requires
-first-number-requires c κs = search needs
-
 returns : tie.Need-returns
 unfolding changeLadder first
 returns c =
@@ -44,9 +29,9 @@ pub judge-copy-spec : {M : Type 1} → statement M
 judge-copy-spec =
     tie.close
     (tie.spec
-    ties-of-requires
-    locked-requires
-    other-type-requires
-    no-room-requires
-    first-number-requires
+    (λ c κs. search needs)
+    (λ c κs. search needs)
+    (λ c κs. search needs)
+    (λ c κs. search needs)
+    (λ c κs. search needs)
     returns)

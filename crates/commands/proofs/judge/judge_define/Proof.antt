@@ -8,24 +8,6 @@ use Rattle.memory.specs.Put.{holding}
 use Rattle.commands.proofs.judge.judge_define.Statement.{statement}
 use Rattle.commands.proofs.judge.judge_define.Tie as tie
 
-group-of-requires : tie.Need-group-of-requires
-group-of-requires c κs = search needs
-
-locked-requires : tie.Need-locked-requires
-locked-requires c κs = search needs
-
-other-type-requires : tie.Need-other-type-requires
-other-type-requires c κs = search needs
-
-used-in-requires : tie.Need-used-in-requires
-used-in-requires c κs = search needs
-
-no-room-requires : tie.Need-no-room-requires
-no-room-requires c κs = search needs
-
-first-number-requires : tie.Need-first-number-requires
-first-number-requires c κs = search needs
-
 returns : tie.Need-returns
 unfolding changeLadder first
 returns c =
@@ -43,10 +25,10 @@ pub judge-define-spec : {M : Type 1} → statement M
 judge-define-spec =
     tie.close
     (tie.spec
-    group-of-requires
-    locked-requires
-    other-type-requires
-    used-in-requires
-    no-room-requires
-    first-number-requires
+    (λ c κs. search needs)
+    (λ c κs. search needs)
+    (λ c κs. search needs)
+    (λ c κs. search needs)
+    (λ c κs. search needs)
+    (λ c κs. search needs)
     returns)

@@ -5,12 +5,6 @@ use Rattle.model.specs.Refusals.{first, locked, changeLadder}
 use Rattle.commands.proofs.judge.judge_enable.Statement.{statement}
 use Rattle.commands.proofs.judge.judge_enable.Tie as tie
 
-locked-requires : tie.Need-locked-requires
-locked-requires c κs = search needs
-
-first-number-requires : tie.Need-first-number-requires
-first-number-requires c κs = search needs
-
 returns : tie.Need-returns
 unfolding changeLadder first
 returns c =
@@ -20,4 +14,4 @@ returns c =
     c .first-number .ensures ∙ (λ i. first ((7, t .absent-is i) ∷ (9, lock i) ∷ []))
 
 pub judge-enable-spec : {M : Type 1} → statement M
-judge-enable-spec = tie.close (tie.spec locked-requires first-number-requires returns)
+judge-enable-spec = tie.close (tie.spec (λ c κs. search needs) (λ c κs. search needs) returns)

@@ -9,18 +9,6 @@ use Rattle.memory.specs.Put.{holding}
 use Rattle.commands.proofs.judge.judge_link.Statement.{statement}
 use Rattle.commands.proofs.judge.judge_link.Tie as tie
 
-ties-of-requires : tie.Need-ties-of-requires
-ties-of-requires c κs = search needs
-
-locked-requires : tie.Need-locked-requires
-locked-requires c κs = search needs
-
-wrong-pred-requires : tie.Need-wrong-pred-requires
-wrong-pred-requires c κs = search needs
-
-first-number-requires : tie.Need-first-number-requires
-first-number-requires c κs = search needs
-
 returns : tie.Need-returns
 unfolding changeLadder first
 returns c =
@@ -39,4 +27,4 @@ returns c =
 pub judge-link-spec : {M : Type 1} → statement M
 judge-link-spec =
     tie.close
-    (tie.spec ties-of-requires locked-requires wrong-pred-requires first-number-requires returns)
+    (tie.spec (λ c κs. search needs) (λ c κs. search needs) (λ c κs. search needs) (λ c κs. search needs) returns)

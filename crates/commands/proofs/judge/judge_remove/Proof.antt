@@ -8,15 +8,6 @@ use Rattle.memory.specs.Put.{holding}
 use Rattle.commands.proofs.judge.judge_remove.Statement.{statement}
 use Rattle.commands.proofs.judge.judge_remove.Tie as tie
 
-locked-requires : tie.Need-locked-requires
-locked-requires c κs = search needs
-
-used-in-requires : tie.Need-used-in-requires
-used-in-requires c κs = search needs
-
-first-number-requires : tie.Need-first-number-requires
-first-number-requires c κs = search needs
-
 returns : tie.Need-returns
 unfolding changeLadder first
 returns c =
@@ -28,4 +19,4 @@ returns c =
 
 pub judge-remove-spec : {M : Type 1} → statement M
 judge-remove-spec =
-    tie.close (tie.spec locked-requires used-in-requires first-number-requires returns)
+    tie.close (tie.spec (λ c κs. search needs) (λ c κs. search needs) (λ c κs. search needs) returns)

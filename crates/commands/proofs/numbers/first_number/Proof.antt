@@ -7,27 +7,6 @@ use Rattle.model.specs.Refusals.{first}
 use Rattle.commands.proofs.numbers.first_number.Statement.{statement}
 use Rattle.commands.proofs.numbers.first_number.Tie as tie
 
-rung-requires : tie.Need-rung-requires
-rung-requires c κs = search needs
-
-rung-requires-2 : tie.Need-rung-requires-2
-rung-requires-2 c κs = search needs
-
-rung-requires-3 : tie.Need-rung-requires-3
-rung-requires-3 c κs = search needs
-
-rung-requires-4 : tie.Need-rung-requires-4
-rung-requires-4 c κs = search needs
-
-rung-requires-5 : tie.Need-rung-requires-5
-rung-requires-5 c κs = search needs
-
-rung-requires-6 : tie.Need-rung-requires-6
-rung-requires-6 c κs = search needs
-
-rung-requires-7 : tie.Need-rung-requires-7
-rung-requires-7 c κs = search needs
-
 no-more : _≡_ {A = ℕ} 0 (first [])
 unfolding first
 no-more = refl
@@ -46,11 +25,11 @@ pub first-number-spec : {M : Type 1} → statement M
 first-number-spec =
     tie.close
     (tie.spec
-    rung-requires
-    rung-requires-2
-    rung-requires-3
-    rung-requires-4
-    rung-requires-5
-    rung-requires-6
-    rung-requires-7
+    (λ c κs. search needs)
+    (λ c κs. search needs)
+    (λ c κs. search needs)
+    (λ c κs. search needs)
+    (λ c κs. search needs)
+    (λ c κs. search needs)
+    (λ c κs. search needs)
     returns)

@@ -9,18 +9,6 @@ use Rattle.model.proofs.Told.{told-value}
 use Rattle.commands.proofs.subject.about.Statement.{statement}
 use Rattle.commands.proofs.subject.about.Tie as tie
 
-found-at-requires : tie.Need-found-at-requires
-found-at-requires c κs = search needs
-
-group-found-requires : tie.Need-group-found-requires
-group-found-requires c κs = search needs
-
-is-absent-requires : tie.Need-is-absent-requires
-is-absent-requires c κs = search needs
-
-reserved-name-requires : tie.Need-reserved-name-requires
-reserved-name-requires c κs = search needs
-
 returns : tie.Need-returns
 returns c =
     λ m place kind.
@@ -41,8 +29,8 @@ pub about-spec : {M : Type 1} → statement M
 about-spec =
     tie.close
     (tie.spec
-    found-at-requires
-    group-found-requires
-    is-absent-requires
-    reserved-name-requires
+    (λ c κs. search needs)
+    (λ c κs. search needs)
+    (λ c κs. search needs)
+    (λ c κs. search needs)
     returns)

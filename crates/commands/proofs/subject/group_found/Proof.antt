@@ -6,18 +6,6 @@ use borrow.Author.Needs.{needs}
 use Rattle.commands.proofs.subject.group_found.Statement.{statement}
 use Rattle.commands.proofs.subject.group_found.Tie as tie
 
-enum-told : tie.Need-enum-told
-enum-told c = search needs
-
-group-of-requires : tie.Need-group-of-requires
-group-of-requires c κs = search needs
-
-enum-known-f : tie.Need-enum-known-f
-enum-known-f c = search needs
-
-enum-told-2 : tie.Need-enum-told-2
-enum-told-2 c = search needs
-
 returns : tie.Need-returns
 unfolding foundTold foundPlace refOr
 returns c = λ l e. rw (c .before .enum-told .given .1) (c .group-of .ensures ∙ ap (λ k. ofKind k .group) (rw (c .before .enum-told .given .1) at e))
@@ -33,4 +21,4 @@ returns-3 c = λ l e. rw (c .enum-told2 .given .1)
 pub group-found-spec : {M : Type 1} → statement M
 group-found-spec =
     tie.close
-    (tie.spec enum-told group-of-requires enum-known-f enum-told-2 returns returns-2 returns-3)
+    (tie.spec (λ c. search needs) (λ c κs. search needs) (λ c. search needs) (λ c. search needs) returns returns-2 returns-3)

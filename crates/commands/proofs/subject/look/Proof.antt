@@ -15,15 +15,6 @@ use Rattle.commands.proofs.subject.look.Tie as tie
 long : (c : tie.Start) → length (c .args .m .systems) ≡ maxSystems
 long c = search (length-mapped, needs)
 
-places-named-requires : tie.Need-places-named-requires
-places-named-requires c κs = search needs
-
-about-requires : tie.Need-about-requires
-about-requires c κs = search needs
-
-about-requires-2 : tie.Need-about-requires-2
-about-requires-2 c κs = search needs
-
 returns : tie.Need-returns
 returns c =
     let start = c .before .before .before .before .before .before .before in
@@ -45,4 +36,4 @@ returns c =
 pub look-spec : {M : Type 1} → statement M
 look-spec =
     tie.close
-    (tie.spec places-named-requires about-requires about-requires-2 returns)
+    (tie.spec (λ c κs. search needs) (λ c κs. search needs) (λ c κs. search needs) returns)

@@ -13,12 +13,6 @@ use Rattle.commands.proofs.Carried.{decides-refused, decides-put, copy-
 use Rattle.commands.proofs.systems.copy.Statement.{statement}
 use Rattle.commands.proofs.systems.copy.Tie as tie
 
-judge-copy-requires : tie.Need-judge-copy-requires
-judge-copy-requires c κs = search needs
-
-refused-requires : tie.Need-refused-requires
-refused-requires c κs = search needs
-
 returns : tie.Need-returns
 returns c =
     let j = c .before .before in
@@ -26,12 +20,6 @@ returns c =
     λ s x level seen.
     let number = j .judge-copy .ensures (s .volatile) x to seen (stateOf s) level in
     decides-refused s (copy x to) (j .judge-copy .result) number (c .refused .result) (c .before .if1 .taken) (c .refused .ensures)
-
-renamed-requires : tie.Need-renamed-requires
-renamed-requires c κs = search needs
-
-putting-requires : tie.Need-putting-requires
-putting-requires c κs = search needs
 
 returns-2 : tie.Need-returns-2
 unfolding changed
@@ -59,9 +47,9 @@ pub copy-spec : {M : Type 1} → statement M
 copy-spec =
     tie.close
     (tie.spec
-    judge-copy-requires
-    refused-requires
+    (λ c κs. search needs)
+    (λ c κs. search needs)
     returns
-    renamed-requires
-    putting-requires
+    (λ c κs. search needs)
+    (λ c κs. search needs)
     returns-2)

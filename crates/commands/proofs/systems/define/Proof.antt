@@ -15,24 +15,12 @@ use Rattle.commands.proofs.systems.define.Tie as tie
 abbrev asked : tie.Start → Change
 asked c = define (c .args .kind) (bytesOf (c .args .n)) (c .args .offset) (c .args .turns)
 
-judge-define-requires : tie.Need-judge-define-requires
-judge-define-requires c κs = search needs
-
-refused-requires : tie.Need-refused-requires
-refused-requires c κs = search needs
-
 returns : tie.Need-returns
 returns c =
     let j = c .before .before in
     λ s y level seen.
     let number = j .judge-define .ensures (s .volatile) _ y _ _ seen (stateOf s) level in
     decides-refused s (asked (j .before)) (j .judge-define .result) number (c .refused .result) (c .before .if1 .taken) (c .refused .ensures)
-
-fresh-system-requires : tie.Need-fresh-system-requires
-fresh-system-requires c κs = search needs
-
-putting-requires : tie.Need-putting-requires
-putting-requires c κs = search needs
 
 returns-2 : tie.Need-returns-2
 unfolding changed
@@ -57,9 +45,9 @@ pub define-spec : {M : Type 1} → statement M
 define-spec =
     tie.close
     (tie.spec
-    judge-define-requires
-    refused-requires
+    (λ c κs. search needs)
+    (λ c κs. search needs)
     returns
-    fresh-system-requires
-    putting-requires
+    (λ c κs. search needs)
+    (λ c κs. search needs)
     returns-2)

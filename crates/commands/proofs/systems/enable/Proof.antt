@@ -12,23 +12,11 @@ use Rattle.commands.proofs.Carried.{decides-refused, decides-accepted}
 use Rattle.commands.proofs.systems.enable.Statement.{statement}
 use Rattle.commands.proofs.systems.enable.Tie as tie
 
-judge-enable-requires : tie.Need-judge-enable-requires
-judge-enable-requires c κs = search needs
-
-refused-requires : tie.Need-refused-requires
-refused-requires c κs = search needs
-
 returns : tie.Need-returns
 returns c =
     let j = c .before .before in
     λ s x y level seen.
     decides-refused s (enable x) (j .judge-enable .result) (j .judge-enable .ensures (s .volatile) x y seen (stateOf s) level) (c .refused .result) (c .before .if1 .taken) (c .refused .ensures)
-
-enabling-requires : tie.Need-enabling-requires
-enabling-requires c κs = search needs
-
-accepted-requires : tie.Need-accepted-requires
-accepted-requires c κs = search needs
 
 returns-2 : tie.Need-returns-2
 unfolding changed done Fits
@@ -50,9 +38,9 @@ pub enable-spec : {M : Type 1} → statement M
 enable-spec =
     tie.close
     (tie.spec
-    judge-enable-requires
-    refused-requires
+    (λ c κs. search needs)
+    (λ c κs. search needs)
     returns
-    enabling-requires
-    accepted-requires
+    (λ c κs. search needs)
+    (λ c κs. search needs)
     returns-2)

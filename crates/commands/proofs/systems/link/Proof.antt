@@ -13,23 +13,11 @@ use Rattle.commands.proofs.Carried.{decides-refused, decides-put, link-
 use Rattle.commands.proofs.systems.link.Statement.{statement}
 use Rattle.commands.proofs.systems.link.Tie as tie
 
-judge-link-requires : tie.Need-judge-link-requires
-judge-link-requires c κs = search needs
-
-refused-requires : tie.Need-refused-requires
-refused-requires c κs = search needs
-
 returns : tie.Need-returns
 returns c =
     let j = c .before .before in
     λ s x y level seen.
     decides-refused s (link x y) (j .judge-link .result) (j .judge-link .ensures (s .volatile) x y seen (stateOf s) level) (c .refused .result) (c .before .if1 .taken) (c .refused .ensures)
-
-relinked-requires : tie.Need-relinked-requires
-relinked-requires c κs = search needs
-
-putting-requires : tie.Need-putting-requires
-putting-requires c κs = search needs
 
 returns-2 : tie.Need-returns-2
 unfolding changed
@@ -54,4 +42,4 @@ returns-2 c =
 pub link-spec : {M : Type 1} → statement M
 link-spec =
     tie.close
-    (tie.spec judge-link-requires refused-requires returns relinked-requires putting-requires returns-2)
+    (tie.spec (λ c κs. search needs) (λ c κs. search needs) returns (λ c κs. search needs) (λ c κs. search needs) returns-2)

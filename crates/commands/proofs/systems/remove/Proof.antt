@@ -11,20 +11,11 @@ use Rattle.commands.proofs.Carried.{decides-refused, decides-accepted, 
 use Rattle.commands.proofs.systems.remove.Statement.{statement}
 use Rattle.commands.proofs.systems.remove.Tie as tie
 
-judge-remove-requires : tie.Need-judge-remove-requires
-judge-remove-requires c κs = search needs
-
-refused-requires : tie.Need-refused-requires
-refused-requires c κs = search needs
-
 returns : tie.Need-returns
 returns c =
     let j = c .before .before in
     λ s x y level seen.
     decides-refused s (remove x) (j .judge-remove .result) (j .judge-remove .ensures (s .volatile) x y seen (stateOf s) level) (c .refused .result) (c .before .if1 .taken) (c .refused .ensures)
-
-accepted-requires : tie.Need-accepted-requires
-accepted-requires c κs = search needs
 
 returns-2 : tie.Need-returns-2
 unfolding changed done Fits
@@ -42,4 +33,4 @@ returns-2 c =
 
 pub remove-spec : {M : Type 1} → statement M
 remove-spec =
-    tie.close (tie.spec judge-remove-requires refused-requires returns accepted-requires returns-2)
+    tie.close (tie.spec (λ c κs. search needs) (λ c κs. search needs) returns (λ c κs. search needs) returns-2)

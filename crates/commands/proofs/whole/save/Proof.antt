@@ -9,12 +9,9 @@ use Rattle.commands.proofs.Carried.{decides-accepted}
 use Rattle.commands.proofs.whole.save.Statement.{statement}
 use Rattle.commands.proofs.whole.save.Tie as tie
 
-accepted-requires : tie.Need-accepted-requires
-accepted-requires c κs = search needs
-
 returns : tie.Need-returns
 unfolding changeLadder first changed done Fits
 returns c = λ s. decides-accepted s save 0 refl (c .accepted .result) Save refl (c .accepted .ensures) tt refl
 
 pub save-spec : {M : Type 1} → statement M
-save-spec = tie.close (tie.spec accepted-requires returns)
+save-spec = tie.close (tie.spec (λ c κs. search needs) returns)

@@ -9,12 +9,9 @@ use Rattle.commands.proofs.Carried.{decides-accepted}
 use Rattle.commands.proofs.whole.set_level.Statement.{statement}
 use Rattle.commands.proofs.whole.set_level.Tie as tie
 
-accepted-requires : tie.Need-accepted-requires
-accepted-requires c κs = search needs
-
 returns : tie.Need-returns
 unfolding changeLadder first changed done Fits
 returns c = let n = c .before .args .n in λ s. decides-accepted s (setLevel n) 0 refl (c .accepted .result) (SetLevel n) refl (c .accepted .ensures) tt refl
 
 pub set-level-spec : {M : Type 1} → statement M
-set-level-spec = tie.close (tie.spec accepted-requires returns)
+set-level-spec = tie.close (tie.spec (λ c κs. search needs) returns)

@@ -27,47 +27,11 @@ use Rattle.engine.proofs.lists.resultant_line.Reads as resultant-line-r
 use Rattle.engine.proofs.lists.resultants_line.Reads as resultants-line-reads
 use Rattle.engine.proofs.lists.systems_line.Reads as systems-line-reads
 
-enum-told : tie.Need-enum-told
-enum-told c = search needs
-
-refused-requires : tie.Need-refused-requires
-refused-requires c κs = search needs
-
-silent-requires : tie.Need-silent-requires
-silent-requires c κs = search needs
-
-enum-told-2 : tie.Need-enum-told-2
-enum-told-2 c = search needs
-
-refused-requires-2 : tie.Need-refused-requires-2
-refused-requires-2 c κs = search needs
-
-silent-requires-2 : tie.Need-silent-requires-2
-silent-requires-2 c κs = search needs
-
-enum-told-3 : tie.Need-enum-told-3
-enum-told-3 c = search needs
-
-refused-requires-3 : tie.Need-refused-requires-3
-refused-requires-3 c κs = search needs
-
-silent-requires-3 : tie.Need-silent-requires-3
-silent-requires-3 c κs = search needs
-
-enum-known-asked : tie.Need-enum-known-asked
-enum-known-asked c = search needs
-
 look-requires : tie.Need-look-requires
 look-requires c κs = c .before .before .before .before .before .before .pre .0 .shape
 
 define-requires : tie.Need-define-requires
 define-requires c κs = (c .look .ensures .links .few, c .before .before .before .before .before .before .before .pre .1 .0 .0)
-
-silent-requires-4 : tie.Need-silent-requires-4
-silent-requires-4 c κs = search needs
-
-enum-told-4 : tie.Need-enum-told-4
-enum-told-4 c = search needs
 
 look-requires-2 : tie.Need-look-requires-2
 look-requires-2 c κs = c .before .before .before .before .before .pre .0 .shape
@@ -75,23 +39,11 @@ look-requires-2 c κs = c .before .before .before .before .before .pre .0 .shape
 link-requires : tie.Need-link-requires
 link-requires c κs = c .look2 .ensures .links .few
 
-silent-requires-5 : tie.Need-silent-requires-5
-silent-requires-5 c κs = search needs
-
-enum-told-5 : tie.Need-enum-told-5
-enum-told-5 c = search needs
-
 look-requires-3 : tie.Need-look-requires-3
 look-requires-3 c κs = c .before .before .before .before .before .pre .0 .shape
 
 copy-requires : tie.Need-copy-requires
 copy-requires c κs = (c .look3 .ensures .links .few, c .before .before .before .before .before .before .pre .1 .0 .1)
-
-silent-requires-6 : tie.Need-silent-requires-6
-silent-requires-6 c κs = search needs
-
-enum-told-6 : tie.Need-enum-told-6
-enum-told-6 c = search needs
 
 look-requires-4 : tie.Need-look-requires-4
 look-requires-4 c κs = c .before .before .before .before .before .pre .0 .shape
@@ -99,97 +51,13 @@ look-requires-4 c κs = c .before .before .before .before .before .pre .0 .shape
 remove-requires : tie.Need-remove-requires
 remove-requires c κs = c .look4 .ensures .links .few
 
-silent-requires-7 : tie.Need-silent-requires-7
-silent-requires-7 c κs = search needs
-
-enum-told-7 : tie.Need-enum-told-7
-enum-told-7 c = search needs
-
 look-requires-5 : tie.Need-look-requires-5
 look-requires-5 c κs = c .before .before .before .before .before .pre .0 .shape
-
-enable-requires : tie.Need-enable-requires
-enable-requires c κs = search needs
-
-silent-requires-8 : tie.Need-silent-requires-8
-silent-requires-8 c κs = search needs
-
-enum-known-asked-2 : tie.Need-enum-known-asked-2
-enum-known-asked-2 c = search needs
-
-set-level-requires : tie.Need-set-level-requires
-set-level-requires c κs = search needs
-
-silent-requires-9 : tie.Need-silent-requires-9
-silent-requires-9 c κs = search needs
-
-enum-told-8 : tie.Need-enum-told-8
-enum-told-8 c = search needs
-
-save-requires : tie.Need-save-requires
-save-requires c κs = search needs
-
-silent-requires-10 : tie.Need-silent-requires-10
-silent-requires-10 c κs = search needs
-
-enum-told-9 : tie.Need-enum-told-9
-enum-told-9 c = search needs
-
-restore-requires : tie.Need-restore-requires
-restore-requires c κs = search needs
-
-silent-requires-11 : tie.Need-silent-requires-11
-silent-requires-11 c κs = search needs
-
-enum-told-10 : tie.Need-enum-told-10
-enum-told-10 c = search needs
-
-reset-requires : tie.Need-reset-requires
-reset-requires c κs = search needs
-
-silent-requires-12 : tie.Need-silent-requires-12
-silent-requires-12 c κs = search needs
-
-enum-told-11 : tie.Need-enum-told-11
-enum-told-11 c = search needs
-
-enabled-line-requires : tie.Need-enabled-line-requires
-enabled-line-requires c κs = search needs
-
-enum-told-12 : tie.Need-enum-told-12
-enum-told-12 c = search needs
-
-systems-line-requires : tie.Need-systems-line-requires
-systems-line-requires c κs = search needs
-
-enum-told-13 : tie.Need-enum-told-13
-enum-told-13 c = search needs
-
-links-line-requires : tie.Need-links-line-requires
-links-line-requires c κs = search needs
-
-enum-told-14 : tie.Need-enum-told-14
-enum-told-14 c = search needs
-
-resultants-line-requires : tie.Need-resultants-line-requires
-resultants-line-requires c κs = search needs
-
-enum-told-15 : tie.Need-enum-told-15
-enum-told-15 c = search needs
-
-subject-of-requires : tie.Need-subject-of-requires
-subject-of-requires c κs = search needs
 
 resultant-line-requires : tie.Need-resultant-line-requires
 resultant-line-requires c κs =
     let start = c .before .before .before .before .before .before .before in
     (start .pre .0, (start .pre .1 .1, named-within (start .args .m) _ _ (c .before .subject-of .ensures)))
-
-enum-told-16 : tie.Need-enum-told-16
-enum-told-16 c = search needs
-
-error-line-requires : tie.Need-error-line-requires
-error-line-requires c κs = search needs
 
 returns : tie.Need-returns
 returns c s volatile level error = rw (c .before .before .enum-told .given .1) (refusal-taken s _ _ (c .silent .ensures) _ _ _ (obeyed-unknown _ _) (c .before .refused .ensures))
@@ -227,38 +95,20 @@ returns-11 c s volatile level error = rw (c .before .before .enum-told9 .given .
 returns-12 : tie.Need-returns-12
 returns-12 c s volatile level error = rw (c .before .before .enum-told10 .given .1) (change-taken s _ _ (c .silent12 .ensures) _ _ (c .before .reset .ensures s level))
 
-same-length : tie.Need-same-length
-same-length c = search needs
-
 returns-13 : tie.Need-returns-13
 returns-13 c s volatile level error = rw (c .before .before .before .before .enum-told11 .given .1) (c .before .before .enabled-line .ensures s volatile)
-
-same-length-2 : tie.Need-same-length-2
-same-length-2 c = search needs
 
 returns-14 : tie.Need-returns-14
 returns-14 c s volatile level error = rw (c .before .before .before .before .enum-told12 .given .1) (c .before .before .systems-line .ensures s volatile)
 
-same-length-3 : tie.Need-same-length-3
-same-length-3 c = search needs
-
 returns-15 : tie.Need-returns-15
 returns-15 c s volatile level error = rw (c .before .before .before .before .enum-told13 .given .1) (c .before .before .links-line .ensures s volatile)
-
-same-length-4 : tie.Need-same-length-4
-same-length-4 c = search needs
 
 returns-16 : tie.Need-returns-16
 returns-16 c s volatile level error = rw (c .before .before .before .before .enum-told14 .given .1) (c .before .before .resultants-line .ensures s volatile)
 
-same-length-5 : tie.Need-same-length-5
-same-length-5 c = search needs
-
 returns-17 : tie.Need-returns-17
 returns-17 c s volatile level error = rw (c .before .before .before .before .before .enum-told15 .given .1) (c .before .before .resultant-line .ensures s _ volatile (c .before .before .before .before .subject-of .ensures))
-
-same-length-6 : tie.Need-same-length-6
-same-length-6 c = search needs
 
 returns-18 : tie.Need-returns-18
 returns-18 c s volatile level error = rw (c .before .before .before .before .enum-told16 .given .1) (c .before .before .error-line .ensures s error)
@@ -267,60 +117,60 @@ pub carry-out-spec : {M : Type 1} → statement M
 carry-out-spec =
     tie.close
     (tie.spec
-    enum-told
-    refused-requires
-    silent-requires
-    enum-told-2
-    refused-requires-2
-    silent-requires-2
-    enum-told-3
-    refused-requires-3
-    silent-requires-3
-    enum-known-asked
+    (λ c. search needs)
+    (λ c κs. search needs)
+    (λ c κs. search needs)
+    (λ c. search needs)
+    (λ c κs. search needs)
+    (λ c κs. search needs)
+    (λ c. search needs)
+    (λ c κs. search needs)
+    (λ c κs. search needs)
+    (λ c. search needs)
     look-requires
     define-requires
-    silent-requires-4
-    enum-told-4
+    (λ c κs. search needs)
+    (λ c. search needs)
     look-requires-2
     link-requires
-    silent-requires-5
-    enum-told-5
+    (λ c κs. search needs)
+    (λ c. search needs)
     look-requires-3
     copy-requires
-    silent-requires-6
-    enum-told-6
+    (λ c κs. search needs)
+    (λ c. search needs)
     look-requires-4
     remove-requires
-    silent-requires-7
-    enum-told-7
+    (λ c κs. search needs)
+    (λ c. search needs)
     look-requires-5
-    enable-requires
-    silent-requires-8
-    enum-known-asked-2
-    set-level-requires
-    silent-requires-9
-    enum-told-8
-    save-requires
-    silent-requires-10
-    enum-told-9
-    restore-requires
-    silent-requires-11
-    enum-told-10
-    reset-requires
-    silent-requires-12
-    enum-told-11
-    enabled-line-requires
-    enum-told-12
-    systems-line-requires
-    enum-told-13
-    links-line-requires
-    enum-told-14
-    resultants-line-requires
-    enum-told-15
-    subject-of-requires
+    (λ c κs. search needs)
+    (λ c κs. search needs)
+    (λ c. search needs)
+    (λ c κs. search needs)
+    (λ c κs. search needs)
+    (λ c. search needs)
+    (λ c κs. search needs)
+    (λ c κs. search needs)
+    (λ c. search needs)
+    (λ c κs. search needs)
+    (λ c κs. search needs)
+    (λ c. search needs)
+    (λ c κs. search needs)
+    (λ c κs. search needs)
+    (λ c. search needs)
+    (λ c κs. search needs)
+    (λ c. search needs)
+    (λ c κs. search needs)
+    (λ c. search needs)
+    (λ c κs. search needs)
+    (λ c. search needs)
+    (λ c κs. search needs)
+    (λ c. search needs)
+    (λ c κs. search needs)
     resultant-line-requires
-    enum-told-16
-    error-line-requires
+    (λ c. search needs)
+    (λ c κs. search needs)
     returns
     returns-2
     returns-3
@@ -333,15 +183,15 @@ carry-out-spec =
     returns-10
     returns-11
     returns-12
-    same-length
+    (λ c. search needs)
     returns-13
-    same-length-2
+    (λ c. search needs)
     returns-14
-    same-length-3
+    (λ c. search needs)
     returns-15
-    same-length-4
+    (λ c. search needs)
     returns-16
-    same-length-5
+    (λ c. search needs)
     returns-17
-    same-length-6
+    (λ c. search needs)
     returns-18)

@@ -18,26 +18,11 @@ use Rattle.engine.proofs.line.carry_out.Reads as carry-out-reads
 use Rattle.request.proofs.printable.unreadable.Reads as unreadable-reads
 use Rattle.request.proofs.read.Reads as read-reads
 
-refused-requires : tie.Need-refused-requires
-refused-requires c κs = search needs
-
-silent-requires : tie.Need-silent-requires
-silent-requires c κs = search needs
-
 returns : tie.Need-returns
 unfolding short
 returns c s volatile level error fine =
     let start = c .before .before .before .before .before in
     refusal-taken s _ _ (c .silent .ensures) _ _ _ (step-short _ (start .args .line .now) _ (fine .formed) (lt-ltb _ _ (c .before .before .if1 .taken))) (c .before .refused .ensures)
-
-unreadable-requires : tie.Need-unreadable-requires
-unreadable-requires c κs = search needs
-
-refused-requires-2 : tie.Need-refused-requires-2
-refused-requires-2 c κs = search needs
-
-silent-requires-2 : tie.Need-silent-requires-2
-silent-requires-2 c κs = search needs
 
 returns-2 : tie.Need-returns-2
 unfolding short
@@ -46,15 +31,6 @@ returns-2 c s volatile level error fine =
     refusal-taken s _ _ (c .silent2 .ensures) _ _ _
     (step-unreadable _ (start .args .line .now) _ (fine .formed) (le-ltb _ _ (c .before .before .before .before .if1 .left)) (sym (c .before .before .before .unreadable .ensures) ∙ c .before .before .if2 .taken))
     (c .before .refused2 .ensures)
-
-read-requires : tie.Need-read-requires
-read-requires c κs = search needs
-
-carry-out-requires : tie.Need-carry-out-requires
-carry-out-requires c κs = search needs
-
-same-length : tie.Need-same-length
-same-length c = search needs
 
 returns-3 : tie.Need-returns-3
 unfolding short
@@ -70,14 +46,14 @@ pub decide-spec : {M : Type 1} → statement M
 decide-spec =
     tie.close
     (tie.spec
-    refused-requires
-    silent-requires
+    (λ c κs. search needs)
+    (λ c κs. search needs)
     returns
-    unreadable-requires
-    refused-requires-2
-    silent-requires-2
+    (λ c κs. search needs)
+    (λ c κs. search needs)
+    (λ c κs. search needs)
     returns-2
-    read-requires
-    carry-out-requires
-    same-length
+    (λ c κs. search needs)
+    (λ c κs. search needs)
+    (λ c. search needs)
     returns-3)

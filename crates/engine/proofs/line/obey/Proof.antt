@@ -20,9 +20,6 @@ applied-requires c κs =
     let start = c .before .before .before .before .before .before .before .before in
     c .before .before .before .decide .ensures (start .args .s) refl refl refl (start .pre) .doable
 
-same-length : tie.Need-same-length
-same-length c = search needs
-
 returns : tie.Need-returns
 returns c =
     let start = c .before .before .before .before .before .before .before .before .before in
@@ -31,4 +28,4 @@ returns c =
     (c .applied .ensures .0) (c .applied .ensures .1 (start .pre .shape))
 
 pub obey-spec : {M : Type 1} → statement M
-obey-spec = tie.close (tie.spec decide-requires applied-requires same-length returns)
+obey-spec = tie.close (tie.spec decide-requires applied-requires (λ c. search needs) returns)

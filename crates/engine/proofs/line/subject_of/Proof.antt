@@ -8,8 +8,5 @@ use Rattle.commands.proofs.subject.look.Reads as look-reads
 look-requires : tie.Need-look-requires
 look-requires c κs = c .pre .shape
 
-returns : tie.Need-returns
-returns c = search needs
-
 pub subject-of-spec : {M : Type 1} → statement M
-subject-of-spec = tie.close (tie.spec look-requires returns)
+subject-of-spec = tie.close (tie.spec look-requires (λ c. search needs))

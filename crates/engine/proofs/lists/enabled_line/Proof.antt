@@ -10,18 +10,9 @@ use Rattle.engine.proofs.lists.enabled_line.Lts as lts
 use Rattle.engine.proofs.answer.replied.Reads as replied-reads
 use Rattle.reply.proofs.enabled.enabled.Reads as enabled-reads
 
-enabled-requires : tie.Need-enabled-requires
-enabled-requires c κs = search needs
-
-replied-requires : tie.Need-replied-requires
-replied-requires c κs = search needs
-
-same-length : tie.Need-same-length
-same-length c = search needs
-
 returns : tie.Need-returns
 unfolding queryLadder first
 returns c s e = list-taken s _ e asked.enabledOnes refl _ _ _ _ (c .before .before .before .enabled .ensures) (c .replied .ensures)
 
 pub enabled-line-spec : {M : Type 1} → statement M
-enabled-line-spec = tie.close (tie.spec enabled-requires replied-requires same-length returns)
+enabled-line-spec = tie.close (tie.spec (λ c κs. search needs) (λ c κs. search needs) (λ c. search needs) returns)

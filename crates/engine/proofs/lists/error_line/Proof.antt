@@ -16,15 +16,6 @@ use Rattle.engine.proofs.lists.error_line.Lts as lts
 use Rattle.commands.proofs.changed.accepted.Reads as accepted-reads
 use Rattle.reply.proofs.last_error.Reads as last-error-reads
 
-last-error-requires : tie.Need-last-error-requires
-last-error-requires c κs = search needs
-
-accepted-requires : tie.Need-accepted-requires
-accepted-requires c κs = search needs
-
-same-length : tie.Need-same-length
-same-length c = search needs
-
 returns : tie.Need-returns
 returns c s e =
     let st = stateOf s in
@@ -33,4 +24,4 @@ returns c s e =
     (obeyed-error st b ∙ ap (λ (n : ℕ). answered (withError st 0) (decimal n ++ ascii "\n") b) e) (c .accepted .ensures)
 
 pub error-line-spec : {M : Type 1} → statement M
-error-line-spec = tie.close (tie.spec last-error-requires accepted-requires same-length returns)
+error-line-spec = tie.close (tie.spec (λ c κs. search needs) (λ c κs. search needs) (λ c. search needs) returns)

@@ -10,18 +10,9 @@ use Rattle.engine.proofs.lists.links_line.Lts as lts
 use Rattle.engine.proofs.answer.replied.Reads as replied-reads
 use Rattle.reply.proofs.links.Reads as links-reads
 
-links-requires : tie.Need-links-requires
-links-requires c κs = search needs
-
-replied-requires : tie.Need-replied-requires
-replied-requires c κs = search needs
-
-same-length : tie.Need-same-length
-same-length c = search needs
-
 returns : tie.Need-returns
 unfolding queryLadder first
 returns c s e = list-taken s _ e asked.links refl _ _ _ _ (c .before .before .before .links .ensures) (c .replied .ensures)
 
 pub links-line-spec : {M : Type 1} → statement M
-links-line-spec = tie.close (tie.spec links-requires replied-requires same-length returns)
+links-line-spec = tie.close (tie.spec (λ c κs. search needs) (λ c κs. search needs) (λ c. search needs) returns)

@@ -8,19 +8,10 @@ use Rattle.engine.proofs.lists.one_line.Lts as lts
 use Rattle.engine.proofs.answer.replied.Reads as replied-reads
 use Rattle.reply.proofs.resultants.resultant_at.Reads as resultant-at-reads
 
-resultant-at-requires : tie.Need-resultant-at-requires
-resultant-at-requires c κs = search needs
-
-replied-requires : tie.Need-replied-requires
-replied-requires c κs = search needs
-
-same-length : tie.Need-same-length
-same-length c = search needs
-
 returns : tie.Need-returns
 returns c s =
     let w = c .replied .ensures in
     reply-taken s _ _ _ _ _ _ (w .3) (c .before .before .before .resultant-at .ensures) refl (w .0, w .1, w .2)
 
 pub one-line-spec : {M : Type 1} → statement M
-one-line-spec = tie.close (tie.spec resultant-at-requires replied-requires same-length returns)
+one-line-spec = tie.close (tie.spec (λ c κs. search needs) (λ c κs. search needs) (λ c. search needs) returns)

@@ -17,30 +17,6 @@ use Rattle.commands.proofs.changed.refused.Reads as refused-reads
 use Rattle.engine.proofs.answer.silent.Reads as silent-reads
 use Rattle.engine.proofs.lists.one_line.Reads as one-line-reads
 
-enum-told : tie.Need-enum-told
-enum-told c = search needs
-
-one-line-requires : tie.Need-one-line-requires
-one-line-requires c κs = search needs
-
-enum-known-found : tie.Need-enum-known-found
-enum-known-found c = search needs
-
-one-line-requires-2 : tie.Need-one-line-requires-2
-one-line-requires-2 c κs = search needs
-
-enum-told-2 : tie.Need-enum-told-2
-enum-told-2 c = search needs
-
-refused-requires : tie.Need-refused-requires
-refused-requires c κs = search needs
-
-silent-requires : tie.Need-silent-requires
-silent-requires c κs = search needs
-
-same-length : tie.Need-same-length
-same-length c = search needs
-
 returns : tie.Need-returns
 returns c s n e t =
     let a = c .before .before .before .before .before .before .before .args in
@@ -48,9 +24,6 @@ returns c s n e t =
     retold
     (user-answers s n (a .x) told (a .reply .now) _ (c .before .before .before .before .enum-told .given .1) ∙ ap (λ (v : Memory). answered (stateOf s) (oneLine v Operating (a .x .place)) (a .reply .now)) e)
     (c .before .before .one-line .ensures s)
-
-same-length-2 : tie.Need-same-length-2
-same-length-2 c = search needs
 
 returns-2 : tie.Need-returns-2
 returns-2 c s n e t =
@@ -71,15 +44,15 @@ pub resultant-line-spec : {M : Type 1} → statement M
 resultant-line-spec =
     tie.close
     (tie.spec
-    enum-told
-    one-line-requires
-    enum-known-found
-    one-line-requires-2
-    enum-told-2
-    refused-requires
-    silent-requires
-    same-length
+    (λ c. search needs)
+    (λ c κs. search needs)
+    (λ c. search needs)
+    (λ c κs. search needs)
+    (λ c. search needs)
+    (λ c κs. search needs)
+    (λ c κs. search needs)
+    (λ c. search needs)
     returns
-    same-length-2
+    (λ c. search needs)
     returns-2
     returns-3)

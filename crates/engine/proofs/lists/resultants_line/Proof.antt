@@ -10,19 +10,10 @@ use Rattle.engine.proofs.lists.resultants_line.Lts as lts
 use Rattle.engine.proofs.answer.replied.Reads as replied-reads
 use Rattle.reply.proofs.resultants.resultants.Reads as resultants-reads
 
-resultants-requires : tie.Need-resultants-requires
-resultants-requires c κs = search needs
-
-replied-requires : tie.Need-replied-requires
-replied-requires c κs = search needs
-
-same-length : tie.Need-same-length
-same-length c = search needs
-
 returns : tie.Need-returns
 unfolding queryLadder first
 returns c s e = list-taken s _ e asked.resultants refl _ _ _ _ (c .before .before .before .resultants .ensures) (c .replied .ensures)
 
 pub resultants-line-spec : {M : Type 1} → statement M
 resultants-line-spec =
-    tie.close (tie.spec resultants-requires replied-requires same-length returns)
+    tie.close (tie.spec (λ c κs. search needs) (λ c κs. search needs) (λ c. search needs) returns)

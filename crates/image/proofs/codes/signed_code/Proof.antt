@@ -21,9 +21,6 @@ is-below c = rw (kept (c .before .before)) at (c .if1 .taken)
 is-above : (c : tie.Else1) → ltZ (c .before .before .args .z) (pos 0) ≡ false
 is-above c = rw (kept (c .before .before)) at (c .if1 .left)
 
-magnitude-requires : tie.Need-magnitude-requires
-magnitude-requires c κs = search needs
-
 mul-result : tie.Need-mul-result
 mul-result c = rw (is (c .before)) (record { fits = omega (arith, c .before .before .pre) })
 
@@ -42,4 +39,4 @@ returns-2 c = rw (is (c .before)) (code-above (c .before .before .args .z) (is-a
 pub signed-code-spec : {M : Type 1} → statement M
 signed-code-spec =
     tie.close
-    (tie.spec magnitude-requires mul-result sub-result returns mul-result-2 returns-2)
+    (tie.spec (λ c κs. search needs) mul-result sub-result returns mul-result-2 returns-2)

@@ -11,19 +11,10 @@ use Rattle.image.proofs.Signs.{of-even, of-odd}
 use Rattle.image.proofs.codes.signed_of.Statement.{statement}
 use Rattle.image.proofs.codes.signed_of.Tie as tie
 
-cast-result : tie.Need-cast-result
-cast-result c = search needs
-
 returns : tie.Need-returns
 returns c =
     let n = c .before .args .n in
     toZ-pos w64 {n = n / 2} (omega (arith, c .before .pre, div-add-mod n 2)) ∙ of-even n (c .if1 .taken)
-
-add-below : tie.Need-add-below
-add-below c = search needs
-
-cast-negated : tie.Need-cast-negated
-cast-negated c = search needs
 
 -- one more than half of it is small
 small : (c : tie.Start) → toZ w64 (c .args .n / 2 + 1) ≡ pos (c .args .n / 2 + 1)
@@ -38,4 +29,4 @@ returns-2 c =
 
 pub signed-of-spec : {M : Type 1} → statement M
 signed-of-spec =
-    tie.close (tie.spec cast-result returns add-below cast-negated negated-requires returns-2)
+    tie.close (tie.spec (λ c. search needs) returns (λ c. search needs) (λ c. search needs) negated-requires returns-2)

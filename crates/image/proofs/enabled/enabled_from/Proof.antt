@@ -5,20 +5,11 @@ use borrow.Author.Needs.{needs}
 use Rattle.image.proofs.enabled.enabled_from.Statement.{statement}
 use Rattle.image.proofs.enabled.enabled_from.Tie as tie
 
-array-read-t9 : tie.Need-array-read-t9
-array-read-t9 c = search needs
-
 cast-t10 : tie.Need-cast-t10
 cast-t10 c = record { fits = omega (arith, c .before .pre .1 0 (omega (arith))) }
 
-array-read-t9-2 : tie.Need-array-read-t9-2
-array-read-t9-2 c = search needs
-
 cast-t10-2 : tie.Need-cast-t10-2
 cast-t10-2 c = record { fits = omega (arith, c .before .pre .1 1 (omega (arith))) }
-
-array-read-t15 : tie.Need-array-read-t15
-array-read-t15 c = search needs
 
 cast-t16 : tie.Need-cast-t16
 cast-t16 c = record { fits = omega (arith, c .before .pre .1 2 (omega (arith))) }
@@ -27,26 +18,14 @@ returns : tie.Need-returns
 unfolding enabledFrom
 returns c = rw (c .if1 .taken)
 
-array-read-t19 : tie.Need-array-read-t19
-array-read-t19 c = search needs
-
 cast-t20 : tie.Need-cast-t20
 cast-t20 c = record { fits = omega (arith, c .before .pre .1 0 (omega (arith))) }
-
-array-read-t23 : tie.Need-array-read-t23
-array-read-t23 c = search needs
 
 cast-t24 : tie.Need-cast-t24
 cast-t24 c = record { fits = omega (arith, c .before .pre .1 1 (omega (arith))) }
 
-array-read-t19-2 : tie.Need-array-read-t19-2
-array-read-t19-2 c = search needs
-
 cast-t24-2 : tie.Need-cast-t24-2
 cast-t24-2 c = record { fits = omega (arith, c .before .pre .1 2 (omega (arith))) }
-
-array-read-t23-2 : tie.Need-array-read-t23-2
-array-read-t23-2 c = search needs
 
 cast-t20-2 : tie.Need-cast-t20-2
 cast-t20-2 c = record { fits = omega (arith, c .before .pre .1 3 (omega (arith, c .if1 .left))) }
@@ -59,19 +38,19 @@ pub enabled-from-spec : {M : Type 1} → statement M
 enabled-from-spec =
     tie.close
     (tie.spec
-    array-read-t9
+    (λ c. search needs)
     cast-t10
-    array-read-t9-2
+    (λ c. search needs)
     cast-t10-2
-    array-read-t15
+    (λ c. search needs)
     cast-t16
     returns
-    array-read-t19
+    (λ c. search needs)
     cast-t20
-    array-read-t23
+    (λ c. search needs)
     cast-t24
-    array-read-t19-2
+    (λ c. search needs)
     cast-t24-2
-    array-read-t23-2
+    (λ c. search needs)
     cast-t20-2
     returns-2)

@@ -30,15 +30,6 @@ places-there : (c : tie.Else1) → (
     )
 places-there c = let n = c .before .before in told-value 14 _ _ (rw (not-false (n .read-numbers .result .ok) (c .if1 .left)) at (n .read-numbers .ensures))
 
-read-number-requires : tie.Need-read-number-requires
-read-number-requires c κs = search needs
-
-enum-known-first : tie.Need-enum-known-first
-enum-known-first c = search needs
-
-enum-told : tie.Need-enum-told
-enum-told c = search needs
-
 returns : tie.Need-returns
 returns c =
     let e = told-value 14 _ _ (rw (c .enum-told .given .1) at (c .before .before .read-number .ensures)) in
@@ -73,9 +64,9 @@ pub read-enabled-spec : {M : Type 1} → statement M
 read-enabled-spec =
     tie.close
     (tie.spec
-    read-number-requires
-    enum-known-first
-    enum-told
+    (λ c κs. search needs)
+    (λ c. search needs)
+    (λ c. search needs)
     returns
     add-read-numbers
     read-numbers-requires

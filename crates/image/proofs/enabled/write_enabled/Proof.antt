@@ -36,31 +36,10 @@ module _ (c : tie.After-operating2) where
   room : start .args .at + length (whole 1 ++ places) ≤ length (start .args .out .now)
   room = rw is-pair at (start .pre)
 
-cast-o : tie.Need-cast-o
-cast-o c = search needs
-
-cast-l : tie.Need-cast-l
-cast-l c = search needs
-
-enum-known-operating : tie.Need-enum-known-operating
-enum-known-operating c = search needs
-
-cast-t14 : tie.Need-cast-t14
-cast-t14 c = search needs
-
 write-numbers-requires : tie.Need-write-numbers-requires
 write-numbers-requires c κs =
     let o = c .before .before in
     (omega arith, rw (is-single o) at (o .before .before .before .before .before .pre))
-
-enum-known-operating-2 : tie.Need-enum-known-operating-2
-enum-known-operating-2 c = search needs
-
-cast-t17 : tie.Need-cast-t17
-cast-t17 c = search needs
-
-cast-t18 : tie.Need-cast-t18
-cast-t18 c = search needs
 
 write-number-requires : tie.Need-write-number-requires
 write-number-requires c κs =
@@ -73,14 +52,8 @@ write-numbers-requires-2 c κs =
     let o = w .before .before .before in
     (omega arith, left-fits (four o) [] (left-wrote (all-left o) (w .write-number .ensures)) (room o))
 
-same-length : tie.Need-same-length
-same-length c = search needs
-
 returns : tie.Need-returns
 returns c = let w = c .before .before in rw (is-single (w .before .before .before)) (w .write-numbers .ensures)
-
-same-length-2 : tie.Need-same-length-2
-same-length-2 c = search needs
 
 returns-2 : tie.Need-returns-2
 returns-2 c =
@@ -93,17 +66,17 @@ pub write-enabled-spec : {M : Type 1} → statement M
 write-enabled-spec =
     tie.close
     (tie.spec
-    cast-o
-    cast-l
-    enum-known-operating
-    cast-t14
+    (λ c. search needs)
+    (λ c. search needs)
+    (λ c. search needs)
+    (λ c. search needs)
     write-numbers-requires
-    enum-known-operating-2
-    cast-t17
-    cast-t18
+    (λ c. search needs)
+    (λ c. search needs)
+    (λ c. search needs)
     write-number-requires
     write-numbers-requires-2
-    same-length
+    (λ c. search needs)
     returns
-    same-length-2
+    (λ c. search needs)
     returns-2)

@@ -21,29 +21,11 @@ systems-read : (c : tie.Else1) → (
     )
 systems-read c = let l = c .before .before in told-value 14 _ _ (rw (not-false (l .read-systems .result .ok) (c .if1 .left)) at (l .read-systems .ensures .0))
 
-read-systems-requires : tie.Need-read-systems-requires
-read-systems-requires c κs = search needs
-
-no-memory-requires : tie.Need-no-memory-requires
-no-memory-requires c κs = search needs
-
 returns : tie.Need-returns
 returns c =
     let l = c .before .before .before in
     let e = told-value 14 _ _ (rw (not-true (l .read-systems .result .ok) (c .before .if1 .taken)) at (l .read-systems .ensures .0)) in
     (rw (c .no-memory .ensures .0) (refuses-none 14 (no-systems _ _ e)), c .no-memory .ensures .1)
-
-read-enabled-requires : tie.Need-read-enabled-requires
-read-enabled-requires c κs = search needs
-
-enum-known-last : tie.Need-enum-known-last
-enum-known-last c = search needs
-
-enum-told : tie.Need-enum-told
-enum-told c = search needs
-
-no-memory-requires-2 : tie.Need-no-memory-requires-2
-no-memory-requires-2 c κs = search needs
 
 returns-2 : tie.Need-returns-2
 returns-2 c =
@@ -51,9 +33,6 @@ returns-2 c =
     let n = t .before .before in
     let e = told-value 14 _ _ (rw (t .enum-told .given .1) at (n .read-enabled .ensures)) in
     (rw (c .no-memory2 .ensures .0) (refuses-none 14 (no-enabled _ _ _ _ (systems-read (n .before)) e)), c .no-memory2 .ensures .1)
-
-cast-t11 : tie.Need-cast-t11
-cast-t11 c = search needs
 
 returns-3 : tie.Need-returns-3
 unfolding memoryShaped
@@ -72,13 +51,13 @@ pub read-contents-spec : {M : Type 1} → statement M
 read-contents-spec =
     tie.close
     (tie.spec
-    read-systems-requires
-    no-memory-requires
+    (λ c κs. search needs)
+    (λ c κs. search needs)
     returns
-    read-enabled-requires
-    enum-known-last
-    enum-told
-    no-memory-requires-2
+    (λ c κs. search needs)
+    (λ c. search needs)
+    (λ c. search needs)
+    (λ c κs. search needs)
     returns-2
-    cast-t11
+    (λ c. search needs)
     returns-3)

@@ -17,23 +17,11 @@ head-read : (c : tie.Else1) → (
     )
 head-read c = let r = c .before .before in told-value 14 _ _ (rw (not-false (r .read-numbers .result .ok) (c .if1 .left)) at (r .read-numbers .ensures))
 
-read-numbers-requires : tie.Need-read-numbers-requires
-read-numbers-requires c κs = search needs
-
-no-memory-requires : tie.Need-no-memory-requires
-no-memory-requires c κs = search needs
-
 returns : tie.Need-returns
 returns c =
     let r = c .before .before .before in
     let e = told-value 14 _ _ (rw (not-true (r .read-numbers .result .ok) (c .before .if1 .taken)) at (r .read-numbers .ensures)) in
     (rw (c .no-memory .ensures .0) (refuses-none 14 (no-head _ e)), c .no-memory .ensures .1)
-
-array-read-if2 : tie.Need-array-read-if2
-array-read-if2 c = search needs
-
-no-memory-requires-2 : tie.Need-no-memory-requires-2
-no-memory-requires-2 c κs = search needs
 
 returns-2 : tie.Need-returns-2
 returns-2 c =
@@ -41,21 +29,12 @@ returns-2 c =
     let v = e1 .before .before .read-numbers .result .values in
     (rw (c .no-memory2 .ensures .0) (refuses-none 14 (other-edition _ v _ (head-read e1) (c .before .if2 .taken))), c .no-memory2 .ensures .1)
 
-array-read-count : tie.Need-array-read-count
-array-read-count c = search needs
-
-no-memory-requires-3 : tie.Need-no-memory-requires-3
-no-memory-requires-3 c κs = search needs
-
 returns-3 : tie.Need-returns-3
 returns-3 c =
     let e2 = c .before .before in
     let e1 = e2 .before .before in
     let v = e1 .before .before .read-numbers .result .values in
     (rw (c .no-memory3 .ensures .0) (refuses-none 14 (too-many _ v _ (head-read e1) (e2 .if2 .left) (c .before .if3 .taken))), c .no-memory3 .ensures .1)
-
-read-contents-requires : tie.Need-read-contents-requires
-read-contents-requires c κs = search needs
 
 returns-4 : tie.Need-returns-4
 returns-4 c =
@@ -69,14 +48,14 @@ pub read-memory-spec : {M : Type 1} → statement M
 read-memory-spec =
     tie.close
     (tie.spec
-    read-numbers-requires
-    no-memory-requires
+    (λ c κs. search needs)
+    (λ c κs. search needs)
     returns
-    array-read-if2
-    no-memory-requires-2
+    (λ c. search needs)
+    (λ c κs. search needs)
     returns-2
-    array-read-count
-    no-memory-requires-3
+    (λ c. search needs)
+    (λ c κs. search needs)
     returns-3
-    read-contents-requires
+    (λ c κs. search needs)
     returns-4)

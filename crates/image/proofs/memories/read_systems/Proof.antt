@@ -30,15 +30,9 @@ abbrev μ-loop : tie.MeasureT-loop
 stored-more : (v : List StoredSystem) (i : ℕ) (x : StoredSystem) → i < length v → map systemOf (take (i + 1) (set v i x)) ≡ map systemOf (take i v) ++ (systemOf x ∷ [])
 stored-more v i x h = rw (add-one, take-suc-set v i x h) (map-append systemOf (take i v) (x ∷ []))
 
-blank-system-requires : tie.Need-blank-system-requires Inv-loop μ-loop
-blank-system-requires c κs = search needs
-
 loop-holds : tie.Need-loop-holds Inv-loop μ-loop
 unfolding all
 loop-holds c = (omega arith, refl, turn-first readSystem _ _, refl)
-
-read-system-requires : tie.Need-read-system-requires Inv-loop μ-loop
-read-system-requires c κs = search needs
 
 returns : tie.Need-returns Inv-loop μ-loop
 returns c =
@@ -48,18 +42,6 @@ returns c =
       refuses-none 14 (l .loop .inv .2 ∙ turn-refused readSystem _ (l .loop .i) _ (map systemOf (take (l .loop .i) (l .loop .systems))) (r .before .loop-test .taken) e),
       λ f. true-false (sym f),
     )
-
-mul-systems : tie.Need-mul-systems Inv-loop μ-loop
-mul-systems c = search needs
-
-array-set-from-systems : tie.Need-array-set-from-systems Inv-loop μ-loop
-array-set-from-systems c = search needs
-
-add-i : tie.Need-add-i Inv-loop μ-loop
-add-i c = search needs
-
-loop-less : tie.Need-loop-less Inv-loop μ-loop
-loop-less c = search needs
 
 loop-again : tie.Need-loop-again Inv-loop μ-loop
 loop-again c =
@@ -93,13 +75,13 @@ read-systems-spec =
     (tie.spec
     Inv-loop
     μ-loop
-    blank-system-requires
+    (λ c κs. search needs)
     loop-holds
-    read-system-requires
+    (λ c κs. search needs)
     returns
-    mul-systems
-    array-set-from-systems
-    add-i
-    loop-less
+    (λ c. search needs)
+    (λ c. search needs)
+    (λ c. search needs)
+    (λ c. search needs)
     loop-again
     returns-2)

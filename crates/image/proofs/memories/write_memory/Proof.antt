@@ -52,9 +52,6 @@ left-listed c = left-wrote (all-left (begun c)) (c .write-numbers .ensures)
 left-enabled : (c : tie.After-write-systems) → (let s = begun (headed c) in LeftOf s (enabled s ++ []) (c .write-systems .result) (c .write-systems .last .0))
 left-enabled c = left-wrote (left-listed (headed c)) (c .write-systems .ensures)
 
-cast-t7 : tie.Need-cast-t7
-cast-t7 c = search needs
-
 write-numbers-requires : tie.Need-write-numbers-requires
 write-numbers-requires c κs = let s = c .before .before .before in (omega arith, room s (head s) (systems s ++ (enabled s ++ [])) _ _ (all-left s))
 
@@ -70,9 +67,6 @@ write-enabled-requires c κs =
     let s = begun (headed w) in
     room s (enabled s) [] _ _ (left-enabled w)
 
-same-length : tie.Need-same-length
-same-length c = search needs
-
 returns : tie.Need-returns
 returns c = let x = c .before .before in left-done (left-wrote (left-enabled (x .before .before .before .before .before)) (x .write-enabled .ensures))
 
@@ -80,9 +74,9 @@ pub write-memory-spec : {M : Type 1} → statement M
 write-memory-spec =
     tie.close
     (tie.spec
-    cast-t7
+    (λ c. search needs)
     write-numbers-requires
     write-systems-requires
     write-enabled-requires
-    same-length
+    (λ c. search needs)
     returns)

@@ -25,9 +25,6 @@ abbrev μ-loop : tie.MeasureT-loop
 long : (c : tie.Start Inv-loop μ-loop) → length (c .args .t3 .systems) ≡ maxSystems
 long c = search (length-mapped, needs)
 
-cast-count : tie.Need-cast-count Inv-loop μ-loop
-cast-count c = search needs
-
 -- the next system, before those that are left after it
 next-left : (c : tie.In-loop Inv-loop μ-loop) → (
     let l = c .before in
@@ -43,9 +40,6 @@ next-left c =
 
 loop-holds : tie.Need-loop-holds Inv-loop μ-loop
 loop-holds c = (omega arith, left-all _ _ _)
-
-mul-s : tie.Need-mul-s Inv-loop μ-loop
-mul-s c = search needs
 
 element-copy-out-s : tie.Need-element-copy-out-s Inv-loop μ-loop
 element-copy-out-s c =
@@ -66,12 +60,6 @@ write-system-requires c κs =
       ),
       offsets-small m (long s) (s .pre .0 .0) (s .pre .0 .1) i _ h,
     )
-
-add-i : tie.Need-add-i Inv-loop μ-loop
-add-i c = search needs
-
-loop-less : tie.Need-loop-less Inv-loop μ-loop
-loop-less c = search needs
 
 loop-again : tie.Need-loop-again Inv-loop μ-loop
 loop-again c =
@@ -94,13 +82,13 @@ write-systems-spec =
     (tie.spec
     Inv-loop
     μ-loop
-    cast-count
+    (λ c. search needs)
     loop-holds
-    mul-s
+    (λ c. search needs)
     element-copy-out-s
     write-system-requires
-    add-i
-    loop-less
+    (λ c. search needs)
+    (λ c. search needs)
     loop-again
     same-length
     returns)

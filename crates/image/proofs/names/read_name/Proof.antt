@@ -5,19 +5,10 @@ use borrow.Author.Needs.{needs}
 use Rattle.image.proofs.names.read_name.Statement.{statement}
 use Rattle.image.proofs.names.read_name.Tie as tie
 
-unread-requires : tie.Need-unread-requires
-unread-requires c κs = search needs
-
 returns : tie.Need-returns
 returns c =
     let s = c .before .before .before in
     (rw (c .unread .ensures .0) (refuses-none 14 (name-long (s .args .bytes .now) (s .args .at) (s .args .len) (c .before .if1 .taken))), c .unread .ensures .1)
-
-left-from-requires : tie.Need-left-from-requires
-left-from-requires c κs = search needs
-
-unread-requires-2 : tie.Need-unread-requires-2
-unread-requires-2 c κs = search needs
 
 returns-2 : tie.Need-returns-2
 returns-2 c =
@@ -28,15 +19,6 @@ returns-2 c =
           (refuses-none 14 (name-beyond (s .args .bytes .now) (s .args .at) (s .args .len) (l .before .if1 .left) (omega (arith, t .if2 .taken, l .left-from .ensures)))),
       c .unread2 .ensures .1,
     )
-
-copied-requires : tie.Need-copied-requires
-copied-requires c κs = search needs
-
-cast-t10 : tie.Need-cast-t10
-cast-t10 c = search needs
-
-add-t8 : tie.Need-add-t8
-add-t8 c = search needs
 
 returns-3 : tie.Need-returns-3
 returns-3 c =
@@ -52,12 +34,12 @@ pub read-name-spec : {M : Type 1} → statement M
 read-name-spec =
     tie.close
     (tie.spec
-    unread-requires
+    (λ c κs. search needs)
     returns
-    left-from-requires
-    unread-requires-2
+    (λ c κs. search needs)
+    (λ c κs. search needs)
     returns-2
-    copied-requires
-    cast-t10
-    add-t8
+    (λ c κs. search needs)
+    (λ c. search needs)
+    (λ c. search needs)
     returns-3)

@@ -34,9 +34,6 @@ next-left c =
 loop-holds : tie.Need-loop-holds Inv-loop μ-loop
 loop-holds c = (omega arith, left-all _ _ _)
 
-mul-write-number : tie.Need-mul-write-number Inv-loop μ-loop
-mul-write-number c = search needs
-
 array-read-write-number : tie.Need-array-read-write-number Inv-loop μ-loop
 array-read-write-number c = omega (arith, c .before .loop-test .taken, c .before .before .before .before .pre .0)
 
@@ -45,12 +42,6 @@ write-number-requires c κs =
     let l = c .before .before in
     let s = l .before .before in
     left-fits (whole (getD (s .args .t3) (l .loop .i) 0)) (numbers (drop (l .loop .i + 1) (take (s .args .count) (s .args .t3)))) (next-left (c .before)) (s .pre .1)
-
-add-i : tie.Need-add-i Inv-loop μ-loop
-add-i c = search needs
-
-loop-less : tie.Need-loop-less Inv-loop μ-loop
-loop-less c = search needs
 
 loop-again : tie.Need-loop-again Inv-loop μ-loop
 loop-again c =
@@ -74,11 +65,11 @@ write-numbers-spec =
     Inv-loop
     μ-loop
     loop-holds
-    mul-write-number
+    (λ c. search needs)
     array-read-write-number
     write-number-requires
-    add-i
-    loop-less
+    (λ c. search needs)
+    (λ c. search needs)
     loop-again
     same-length
     returns)

@@ -3,24 +3,6 @@ use borrow.Author.Needs.{needs, sfits-of}
 use Rattle.image.proofs.systems.offset_from.Statement.{statement}
 use Rattle.image.proofs.systems.offset_from.Tie as tie
 
-array-read-signed-of : tie.Need-array-read-signed-of
-array-read-signed-of c = search needs
-
-signed-of-requires : tie.Need-signed-of-requires
-signed-of-requires c κs = search needs
-
-array-read-signed-of-2 : tie.Need-array-read-signed-of-2
-array-read-signed-of-2 c = search needs
-
-signed-of-requires-2 : tie.Need-signed-of-requires-2
-signed-of-requires-2 c κs = search needs
-
-array-read-signed-of-3 : tie.Need-array-read-signed-of-3
-array-read-signed-of-3 c = search needs
-
-signed-of-requires-3 : tie.Need-signed-of-requires-3
-signed-of-requires-3 c κs = search needs
-
 returns : tie.Need-returns
 returns c =
     rw (
@@ -36,10 +18,10 @@ pub offset-from-spec : {M : Type 1} → statement M
 offset-from-spec =
     tie.close
     (tie.spec
-    array-read-signed-of
-    signed-of-requires
-    array-read-signed-of-2
-    signed-of-requires-2
-    array-read-signed-of-3
-    signed-of-requires-3
+    (λ c. search needs)
+    (λ c κs. search needs)
+    (λ c. search needs)
+    (λ c κs. search needs)
+    (λ c. search needs)
+    (λ c κs. search needs)
     returns)

@@ -4,15 +4,6 @@ use borrow.Author.Needs.{needs}
 use Rattle.image.proofs.systems.offsets_of.Statement.{statement}
 use Rattle.image.proofs.systems.offsets_of.Tie as tie
 
-signed-code-requires : tie.Need-signed-code-requires
-signed-code-requires c κs = search needs
-
-signed-code-requires-2 : tie.Need-signed-code-requires-2
-signed-code-requires-2 c κs = search needs
-
-signed-code-requires-3 : tie.Need-signed-code-requires-3
-signed-code-requires-3 c κs = search needs
-
 returns : tie.Need-returns
 returns c =
     let q = c .before .before in
@@ -29,4 +20,4 @@ returns c =
 
 pub offsets-of-spec : {M : Type 1} → statement M
 offsets-of-spec =
-    tie.close (tie.spec signed-code-requires signed-code-requires-2 signed-code-requires-3 returns)
+    tie.close (tie.spec (λ c κs. search needs) (λ c κs. search needs) (λ c κs. search needs) returns)

@@ -32,24 +32,12 @@ turns-read c = let q = c .before .before in told-value 14 _ _ (rw (not-false (q 
 low-turns : (c : tie.Else2) (i : ℕ) → i < 4 → getD (c .before .before .read-numbers2 .result .values) i 0 ≤ 255
 low-turns c = stored-low mostByte 4 _ (c .before .before .read-numbers2 .result .values) _ (turns-read c)
 
-read-numbers-requires : tie.Need-read-numbers-requires
-read-numbers-requires c κs = search needs
-
-no-system-requires : tie.Need-no-system-requires
-no-system-requires c κs = search needs
-
 returns : tie.Need-returns
 returns c =
     let r = c .before .before .before in
     let s = r .before .before in
     let e = told-value 14 _ _ (rw (not-true (r .read-numbers .result .ok) (c .before .if1 .taken)) at (r .read-numbers .ensures)) in
     (rw (c .no-system .ensures .0) (refuses-none 14 (no-offsets _ (s .args .kind) (bytesOf (s .args .name)) e)), c .no-system .ensures .1)
-
-read-numbers-requires-2 : tie.Need-read-numbers-requires-2
-read-numbers-requires-2 c κs = search needs
-
-no-system-requires-2 : tie.Need-no-system-requires-2
-no-system-requires-2 c κs = search needs
 
 returns-2 : tie.Need-returns-2
 returns-2 c =
@@ -72,9 +60,6 @@ offset-from-requires c κs =
 turns-from-requires : tie.Need-turns-from-requires
 turns-from-requires c κs = let t = low-turns (c .before .before .before) in (t 0 (omega arith), t 1 (omega arith), t 2 (omega arith))
 
-array-read-t16 : tie.Need-array-read-t16
-array-read-t16 c = search needs
-
 cast-t17 : tie.Need-cast-t17
 cast-t17 c = record { fits = omega (arith, low-turns (c .before .before .before .before) 3 (omega arith)) }
 
@@ -94,14 +79,14 @@ pub read-placed-spec : {M : Type 1} → statement M
 read-placed-spec =
     tie.close
     (tie.spec
-    read-numbers-requires
-    no-system-requires
+    (λ c κs. search needs)
+    (λ c κs. search needs)
     returns
-    read-numbers-requires-2
-    no-system-requires-2
+    (λ c κs. search needs)
+    (λ c κs. search needs)
     returns-2
     offset-from-requires
     turns-from-requires
-    array-read-t16
+    (λ c. search needs)
     cast-t17
     returns-3)

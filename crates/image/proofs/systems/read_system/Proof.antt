@@ -27,32 +27,11 @@ kind-read c =
     let r = c .before .before .before .before .before .before in
     coded-kind (getD (r .read-numbers .result .values) 0 0) (c .coded .given .0 .0) (c .coded .given .0 .1 .0) (told-value 14 _ _ (rw (c .coded .given .1) at (c .before .before .kind-coded .ensures)))
 
-read-numbers-requires : tie.Need-read-numbers-requires
-read-numbers-requires c κs = search needs
-
-no-system-requires : tie.Need-no-system-requires
-no-system-requires c κs = search needs
-
 returns : tie.Need-returns
 returns c =
     let r = c .before .before .before in
     let e = told-value 14 _ _ (rw (not-true (r .read-numbers .result .ok) (c .before .if1 .taken)) at (r .read-numbers .ensures)) in
     (rw (c .no-system .ensures .0) (refuses-none 14 (no-head _ e)), c .no-system .ensures .1)
-
-array-read-kind-coded : tie.Need-array-read-kind-coded
-array-read-kind-coded c = search needs
-
-kind-coded-requires : tie.Need-kind-coded-requires
-kind-coded-requires c κs = search needs
-
-enum-known-coded : tie.Need-enum-known-coded
-enum-known-coded c = search needs
-
-enum-told : tie.Need-enum-told
-enum-told c = search needs
-
-no-system-requires-2 : tie.Need-no-system-requires-2
-no-system-requires-2 c κs = search needs
 
 returns-2 : tie.Need-returns-2
 returns-2 c =
@@ -62,15 +41,6 @@ returns-2 c =
     let r = e1 .before .before in
     let n = coded-none (getD (r .read-numbers .result .values) 0 0) (told-value 14 _ _ (rw (t .enum-told .given .1) at (k .kind-coded .ensures))) in
     (rw (c .no-system2 .ensures .0) (refuses-none 14 (no-kind _ (r .read-numbers .result .values) _ (head-read e1) n)), c .no-system2 .ensures .1)
-
-array-read-read-name : tie.Need-array-read-read-name
-array-read-read-name c = search needs
-
-read-name-requires : tie.Need-read-name-requires
-read-name-requires c κs = search needs
-
-no-system-requires-3 : tie.Need-no-system-requires-3
-no-system-requires-3 c κs = search needs
 
 returns-3 : tie.Need-returns-3
 returns-3 c =
@@ -82,9 +52,6 @@ returns-3 c =
       rw (c .no-system3 .ensures .0) (refuses-none 14 (no-name _ (r .read-numbers .result .values) _ (head-read e1) (a .coded .given .0 .0) (kind-read a) e)),
       c .no-system3 .ensures .1,
     )
-
-read-placed-requires : tie.Need-read-placed-requires
-read-placed-requires c κs = search needs
 
 returns-4 : tie.Need-returns-4
 returns-4 c =
@@ -103,18 +70,18 @@ pub read-system-spec : {M : Type 1} → statement M
 read-system-spec =
     tie.close
     (tie.spec
-    read-numbers-requires
-    no-system-requires
+    (λ c κs. search needs)
+    (λ c κs. search needs)
     returns
-    array-read-kind-coded
-    kind-coded-requires
-    enum-known-coded
-    enum-told
-    no-system-requires-2
+    (λ c. search needs)
+    (λ c κs. search needs)
+    (λ c. search needs)
+    (λ c. search needs)
+    (λ c κs. search needs)
     returns-2
-    array-read-read-name
-    read-name-requires
-    no-system-requires-3
+    (λ c. search needs)
+    (λ c κs. search needs)
+    (λ c κs. search needs)
     returns-3
-    read-placed-requires
+    (λ c κs. search needs)
     returns-4)

@@ -69,15 +69,6 @@ left-placed c = left-wrote (left-named (headed c)) (c .put-name .ensures)
 left-turned : (c : tie.After-write-numbers2) → (let t = ready (headed (named c)) in LeftOf t (turned t ++ []) (c .write-numbers2 .result) (c .write-numbers2 .last .0))
 left-turned c = left-wrote (left-placed (named c)) (c .write-numbers2 .ensures)
 
-head-of-requires : tie.Need-head-of-requires
-head-of-requires c κs = search needs
-
-offsets-of-requires : tie.Need-offsets-of-requires
-offsets-of-requires c κs = search needs
-
-turned-of-requires : tie.Need-turned-of-requires
-turned-of-requires c κs = search needs
-
 write-numbers-requires : tie.Need-write-numbers-requires
 write-numbers-requires c κs = let t = c .before in (omega arith, room t (head t) (name t ++ (offsets t ++ (turned t ++ []))) _ _ (all-left t))
 
@@ -99,9 +90,6 @@ write-numbers-requires-3 c κs =
     let t = ready (headed (named w)) in
     (omega arith, room t (turned t) [] _ _ (left-turned w))
 
-same-length : tie.Need-same-length
-same-length c = search needs
-
 returns : tie.Need-returns
 returns c = let w = c .before .before in left-done (left-wrote (left-turned (w .before .before .before .before)) (w .write-numbers3 .ensures))
 
@@ -109,12 +97,12 @@ pub write-system-spec : {M : Type 1} → statement M
 write-system-spec =
     tie.close
     (tie.spec
-    head-of-requires
-    offsets-of-requires
-    turned-of-requires
+    (λ c κs. search needs)
+    (λ c κs. search needs)
+    (λ c κs. search needs)
     write-numbers-requires
     put-name-requires
     write-numbers-requires-2
     write-numbers-requires-3
-    same-length
+    (λ c. search needs)
     returns)

@@ -16,29 +16,8 @@ long c = search needs
 byte : (c : tie.Start) (i : ℕ) → Fits w8 (getD (c .args .n .bytes) i 0)
 byte c i = search needs
 
-clipped-requires : tie.Need-clipped-requires
-clipped-requires c κs = search needs
-
 returns : tie.Need-returns
 returns c = sym (key-none _ _ (long (c .before .before)) (c .before .clipped .ensures) (c .if1 .taken))
-
-sub-end : tie.Need-sub-end
-sub-end c = search needs
-
-array-read-first : tie.Need-array-read-first
-array-read-first c = search needs
-
-cast-first : tie.Need-cast-first
-cast-first c = search needs
-
-array-read-last : tie.Need-array-read-last
-array-read-last c = search needs
-
-cast-last : tie.Need-cast-last
-cast-last c = search needs
-
-cast-result : tie.Need-cast-result
-cast-result c = search needs
 
 mul-result : tie.Need-mul-result
 mul-result c = omega (arith, byte (c .before .before .before) 0)
@@ -59,14 +38,14 @@ pub name-key-spec : {M : Type 1} → statement M
 name-key-spec =
     tie.close
     (tie.spec
-    clipped-requires
+    (λ c κs. search needs)
     returns
-    sub-end
-    array-read-first
-    cast-first
-    array-read-last
-    cast-last
-    cast-result
+    (λ c. search needs)
+    (λ c. search needs)
+    (λ c. search needs)
+    (λ c. search needs)
+    (λ c. search needs)
+    (λ c. search needs)
     mul-result
     add-result
     mul-result-2

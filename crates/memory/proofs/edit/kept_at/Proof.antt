@@ -6,11 +6,8 @@ use Rattle.memory.proofs.edit.kept_at.Tie as tie
 returns : tie.Need-returns
 returns c = rw (lt-ltb _ _ (c .if1 .taken))
 
-add-result : tie.Need-add-result
-add-result c = search needs
-
 returns-2 : tie.Need-returns-2
 returns-2 c = rw (le-ltb _ _ (c .if1 .left))
 
 pub kept-at-spec : {M : Type 1} → statement M
-kept-at-spec = tie.close (tie.spec returns add-result returns-2)
+kept-at-spec = tie.close (tie.spec returns (λ c. search needs) returns-2)

@@ -3,21 +3,6 @@ use Rattle.model.specs.Effects.{mendedPart}
 use Rattle.memory.proofs.edit.mended_part.Statement.{statement}
 use Rattle.memory.proofs.edit.mended_part.Tie as tie
 
-enum-known-o : tie.Need-enum-known-o
-enum-known-o c = search needs
-
-mended-place-requires : tie.Need-mended-place-requires
-mended-place-requires c κs = search needs
-
-enum-known-o-2 : tie.Need-enum-known-o-2
-enum-known-o-2 c = search needs
-
-mended-place-requires-2 : tie.Need-mended-place-requires-2
-mended-place-requires-2 c κs = search needs
-
-mended-place-requires-3 : tie.Need-mended-place-requires-3
-mended-place-requires-3 c κs = search needs
-
 returns : tie.Need-returns
 unfolding mendedPart
 returns c = rw (c .before .before .o .given .1, c .mended-place .ensures)
@@ -30,10 +15,10 @@ pub mended-part-spec : {M : Type 1} → statement M
 mended-part-spec =
     tie.close
     (tie.spec
-    enum-known-o
-    mended-place-requires
-    enum-known-o-2
-    mended-place-requires-2
-    mended-place-requires-3
+    (λ c. search needs)
+    (λ c κs. search needs)
+    (λ c. search needs)
+    (λ c κs. search needs)
+    (λ c κs. search needs)
     returns
     returns-2)

@@ -4,9 +4,6 @@ use Rattle.model.specs.Effects.{movedUp}
 use Rattle.memory.proofs.edit.moved_up.Statement.{statement}
 use Rattle.memory.proofs.edit.moved_up.Tie as tie
 
-sub-result : tie.Need-sub-result
-sub-result c = search needs
-
 returns : tie.Need-returns
 unfolding movedUp
 returns c = rw (lt-ltb _ _ (c .if1 .taken))
@@ -16,4 +13,4 @@ unfolding movedUp
 returns-2 c = rw (le-ltb _ _ (c .if1 .left))
 
 pub moved-up-spec : {M : Type 1} → statement M
-moved-up-spec = tie.close (tie.spec sub-result returns returns-2)
+moved-up-spec = tie.close (tie.spec (λ c. search needs) returns returns-2)

@@ -15,12 +15,6 @@ use Rattle.memory.proofs.edit.put_at.Tie as tie
 long : (c : tie.Start) → length (c .args .m .systems) ≡ maxSystems
 long c = search (length-mapped, needs)
 
-cast-last : tie.Need-cast-last
-cast-last c = search needs
-
-mul-s : tie.Need-mul-s
-mul-s c = search needs
-
 element-set-from-s : tie.Need-element-set-from-s
 element-set-from-s c = c .before .pre .1 (c .if1 .taken)
 
@@ -36,15 +30,6 @@ returns c =
     let e = stored-last (a .m .systems) (a .m .count) (a .s) lt in
     (rw (c .if1 .taken) (λ i. record { systems = e i; enabled = a .m .enabled }), λ p q. shaped-more (a .m) p (a .s) q (omega arith) lt)
 
-sub-at : tie.Need-sub-at
-sub-at c = search needs
-
-mul-s-2 : tie.Need-mul-s-2
-mul-s-2 c = search needs
-
-element-set-from-s-2 : tie.Need-element-set-from-s-2
-element-set-from-s-2 c = search needs
-
 returns-2 : tie.Need-returns-2
 unfolding putAt
 returns-2 c =
@@ -56,12 +41,12 @@ pub put-at-spec : {M : Type 1} → statement M
 put-at-spec =
     tie.close
     (tie.spec
-    cast-last
-    mul-s
+    (λ c. search needs)
+    (λ c. search needs)
     element-set-from-s
     add-r
     returns
-    sub-at
-    mul-s-2
-    element-set-from-s-2
+    (λ c. search needs)
+    (λ c. search needs)
+    (λ c. search needs)
     returns-2)

@@ -43,14 +43,8 @@ there c = omega (arith, c .before .pre .1, length-systems (c .before .args .m) _
 gone-pred : (c : tie.After-held Inv-loop μ-loop) → systemAt (systemsOf (c .before .args .m)) (c .before .args .place) .pred ≡ getD (c .before .args .m .systems) (c .before .args .place - 1) unset .pred
 gone-pred c = ap (λ (s : System). s .pred) (gone-at (c .before .args .m) _ (long (c .before)) (c .held .ensures) (c .before .args .place) (c .before .pre .0) (there c))
 
-held-requires : tie.Need-held-requires Inv-loop μ-loop
-held-requires c κs = search needs
-
 sub-last : tie.Need-sub-last Inv-loop μ-loop
 sub-last c = omega (arith, there c, c .before .pre .0)
-
-sub-hole : tie.Need-sub-hole Inv-loop μ-loop
-sub-hole c = search needs
 
 mul-gone : tie.Need-mul-gone Inv-loop μ-loop
 mul-gone c = omega (arith, there c, c .held .ensures)
@@ -70,9 +64,6 @@ mul-s c = omega (arith, there (c .before .before .before .before), c .before .be
 
 element-copy-out-s : tie.Need-element-copy-out-s Inv-loop μ-loop
 element-copy-out-s c = omega (arith, there (c .before .before .before .before), c .before .before .before .before .held .ensures, c .kept-at .ensures, kept-within (c .before .before .before .before .before .args .place - 1) (c .before .before .loop .i))
-
-mended-system-requires : tie.Need-mended-system-requires Inv-loop μ-loop
-mended-system-requires c κs = search needs
 
 mul-t18 : tie.Need-mul-t18 Inv-loop μ-loop
 mul-t18 c = omega (arith, c .before .before .before .before .before .before .held .ensures)
@@ -112,9 +103,6 @@ loop-again c =
       l .loop .inv .5,
     )
 
-mended-enabled-requires : tie.Need-mended-enabled-requires Inv-loop μ-loop
-mended-enabled-requires c κs = search needs
-
 cast-r : tie.Need-cast-r Inv-loop μ-loop
 cast-r c = omega (arith, c .before .before .before .before .before .held .ensures)
 
@@ -139,21 +127,21 @@ removed-at-spec =
     (tie.spec
     Inv-loop
     μ-loop
-    held-requires
+    (λ c κs. search needs)
     sub-last
-    sub-hole
+    (λ c. search needs)
     mul-gone
     element-copy-out-gone
     loop-holds
     kept-at-requires
     mul-s
     element-copy-out-s
-    mended-system-requires
+    (λ c κs. search needs)
     mul-t18
     element-set-from-r
     add-i
     loop-less
     loop-again
-    mended-enabled-requires
+    (λ c κs. search needs)
     cast-r
     returns)

@@ -4,12 +4,6 @@ use Rattle.model.specs.Effects.{enabledFixed}
 use Rattle.memory.proofs.enable.enabled_zero.Statement.{statement}
 use Rattle.memory.proofs.enable.enabled_zero.Tie as tie
 
-with-operating-requires : tie.Need-with-operating-requires
-with-operating-requires c κs = search needs
-
-with-levelling-requires : tie.Need-with-levelling-requires
-with-levelling-requires c κs = search needs
-
 returns : tie.Need-returns
 unfolding enabledFixed
 returns c = rw (c .with-levelling .ensures, c .before .before .with-operating .ensures, eq-eqb _ _ (c .before .if1 .taken))
@@ -20,4 +14,4 @@ returns-2 c = rw (c .before .with-operating .ensures, ne-eqb _ _ (c .if1 .left))
 
 pub enabled-zero-spec : {M : Type 1} → statement M
 enabled-zero-spec =
-    tie.close (tie.spec with-operating-requires with-levelling-requires returns returns-2)
+    tie.close (tie.spec (λ c κs. search needs) (λ c κs. search needs) returns returns-2)

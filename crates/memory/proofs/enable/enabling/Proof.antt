@@ -16,24 +16,6 @@ unfolding enabling systemAt
 by-place level m zero = refl
 by-place level m (suc k) = rw (eqb·suc-zero k)
 
-enum-known-f : tie.Need-enum-known-f
-enum-known-f c = search needs
-
-enabling-at-requires : tie.Need-enabling-at-requires
-enabling-at-requires c κs = search needs
-
-enum-known-f-2 : tie.Need-enum-known-f-2
-enum-known-f-2 c = search needs
-
-enabling-at-requires-2 : tie.Need-enabling-at-requires-2
-enabling-at-requires-2 c κs = search needs
-
-enum-told : tie.Need-enum-told
-enum-told c = search needs
-
-enabling-at-requires-3 : tie.Need-enabling-at-requires-3
-enabling-at-requires-3 c κs = search needs
-
 returns : tie.Need-returns
 unfolding foundTold foundPlace refOr
 returns c = rw (c .before .before .f .given .1) (λ l q. c .enabling-at .ensures l q ∙ by-place _ _ _)
@@ -50,12 +32,12 @@ pub enabling-spec : {M : Type 1} → statement M
 enabling-spec =
     tie.close
     (tie.spec
-    enum-known-f
-    enabling-at-requires
-    enum-known-f-2
-    enabling-at-requires-2
-    enum-told
-    enabling-at-requires-3
+    (λ c. search needs)
+    (λ c κs. search needs)
+    (λ c. search needs)
+    (λ c κs. search needs)
+    (λ c. search needs)
+    (λ c κs. search needs)
     returns
     returns-2
     returns-3)

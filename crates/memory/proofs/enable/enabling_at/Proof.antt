@@ -4,15 +4,9 @@ use Rattle.model.specs.Effects.{enabling}
 use Rattle.memory.proofs.enable.enabling_at.Statement.{statement}
 use Rattle.memory.proofs.enable.enabling_at.Tie as tie
 
-enabled-fixed-requires : tie.Need-enabled-fixed-requires
-enabled-fixed-requires c κs = search needs
-
 returns : tie.Need-returns
 unfolding enabling
 returns c l q = rw (eq-eqb _ _ (c .before .if1 .taken)) (c .enabled-fixed .ensures)
-
-enabled-user-requires : tie.Need-enabled-user-requires
-enabled-user-requires c κs = search needs
 
 returns-2 : tie.Need-returns-2
 unfolding enabling
@@ -21,4 +15,4 @@ returns-2 c l q = rw (ne-eqb _ _ (c .before .if1 .left), ← q) (c .enabled-user
 pub enabling-at-spec : {M : Type 1} → statement M
 enabling-at-spec =
     tie.close
-    (tie.spec enabled-fixed-requires returns enabled-user-requires returns-2)
+    (tie.spec (λ c κs. search needs) returns (λ c κs. search needs) returns-2)

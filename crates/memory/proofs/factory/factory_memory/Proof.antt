@@ -5,12 +5,9 @@ use Rattle.model.specs.Stored.{memoryShaped}
 use Rattle.memory.proofs.factory.factory_memory.Statement.{statement}
 use Rattle.memory.proofs.factory.factory_memory.Tie as tie
 
-blank-system-requires : tie.Need-blank-system-requires
-blank-system-requires c κs = search needs
-
 returns : tie.Need-returns
 unfolding memoryShaped all
 returns c = (refl, refl)
 
 pub factory-memory-spec : {M : Type 1} → statement M
-factory-memory-spec = tie.close (tie.spec blank-system-requires returns)
+factory-memory-spec = tie.close (tie.spec (λ c κs. search needs) returns)

@@ -18,17 +18,11 @@ returns : tie.Need-returns
 unfolding find isUser orNumber foundTold foundPlace
 returns c = (λ l e q. rw (← q, lt-ltb 0 _ (c .if1 .taken)), refl)
 
-clipped-requires : tie.Need-clipped-requires
-clipped-requires c κs = search needs
-
 array-share-prefix-x : tie.Need-array-share-prefix-x
 array-share-prefix-x c = name-fits (c .before .before .before .args .n) _ (long (c .before .before .before)) (c .before .clipped .ensures)
 
 slice-aggregate-fixed-named : tie.Need-slice-aggregate-fixed-named
 slice-aggregate-fixed-named c = name-count _ _ (long (c .before .before .before .before)) (c .before .before .clipped .ensures)
-
-fixed-named-requires : tie.Need-fixed-named-requires
-fixed-named-requires c κs = search needs
 
 returns-2 : tie.Need-returns-2
 unfolding find isUser
@@ -43,8 +37,8 @@ found-at-spec =
     tie.close
     (tie.spec
     returns
-    clipped-requires
+    (λ c κs. search needs)
     array-share-prefix-x
     slice-aggregate-fixed-named
-    fixed-named-requires
+    (λ c κs. search needs)
     returns-2)

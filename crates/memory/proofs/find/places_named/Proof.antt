@@ -41,49 +41,10 @@ seen-second c =
     let turn = seen-turn (s .args .t1) (bytesOf (s .args .b)) _ (long s) (l .before .before .held .ensures) (l .loop .i) (c .before .before .before .before .before .loop-test .taken) _ _ (l .loop .inv .2) _ (c .before .hits2 .ensures) in
     ⊎-elim (λ w. rw (w .1, w .2) (turn .0 (w .0 .taken))) (λ w. rw (w .1, w .2) (turn .1 (w .0 .left))) (c .if2 .came)
 
-held-requires : tie.Need-held-requires Inv-loop μ-loop
-held-requires c κs = search needs
-
-blank-system-requires : tie.Need-blank-system-requires Inv-loop μ-loop
-blank-system-requires c κs = search needs
-
 loop-holds : tie.Need-loop-holds Inv-loop μ-loop
 loop-holds c =
     let e = c .blank-system .ensures in
     (omega arith, seen-none _ _ _ (e .0) (e .1), seen-none _ _ _ (e .0) (e .1), refl, refl)
-
-mul-s : tie.Need-mul-s Inv-loop μ-loop
-mul-s c = omega arith
-
-element-copy-out-s : tie.Need-element-copy-out-s Inv-loop μ-loop
-element-copy-out-s c = omega arith
-
-array-write-preds : tie.Need-array-write-preds Inv-loop μ-loop
-array-write-preds c = omega arith
-
-hits-requires : tie.Need-hits-requires Inv-loop μ-loop
-hits-requires c κs = search needs
-
-cast-first : tie.Need-cast-first Inv-loop μ-loop
-cast-first c = omega arith
-
-add-first : tie.Need-add-first Inv-loop μ-loop
-add-first c = omega arith
-
-hits-requires-2 : tie.Need-hits-requires-2 Inv-loop μ-loop
-hits-requires-2 c κs = search needs
-
-cast-second : tie.Need-cast-second Inv-loop μ-loop
-cast-second c = omega arith
-
-add-second : tie.Need-add-second Inv-loop μ-loop
-add-second c = omega arith
-
-add-i : tie.Need-add-i Inv-loop μ-loop
-add-i c = omega arith
-
-loop-less : tie.Need-loop-less Inv-loop μ-loop
-loop-less c = omega arith
 
 loop-again : tie.Need-loop-again Inv-loop μ-loop
 loop-again c =
@@ -109,19 +70,19 @@ places-named-spec =
     (tie.spec
     Inv-loop
     μ-loop
-    held-requires
-    blank-system-requires
+    (λ c κs. search needs)
+    (λ c κs. search needs)
     loop-holds
-    mul-s
-    element-copy-out-s
-    array-write-preds
-    hits-requires
-    cast-first
-    add-first
-    hits-requires-2
-    cast-second
-    add-second
-    add-i
-    loop-less
+    (λ c. omega arith)
+    (λ c. omega arith)
+    (λ c. omega arith)
+    (λ c κs. search needs)
+    (λ c. omega arith)
+    (λ c. omega arith)
+    (λ c κs. search needs)
+    (λ c. omega arith)
+    (λ c. omega arith)
+    (λ c. omega arith)
+    (λ c. omega arith)
     loop-again
     returns)

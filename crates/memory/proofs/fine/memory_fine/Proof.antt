@@ -5,26 +5,14 @@ use Rattle.memory.proofs.Judged.{judged, judged-long}
 use Rattle.memory.proofs.fine.memory_fine.Statement.{statement}
 use Rattle.memory.proofs.fine.memory_fine.Tie as tie
 
-cast-if1 : tie.Need-cast-if1
-cast-if1 c = search needs
-
 returns : tie.Need-returns
 returns c = sym (judged-long _ (c .if1 .taken))
-
-typed-fine-requires : tie.Need-typed-fine-requires
-typed-fine-requires c κs = search needs
 
 returns-2 : tie.Need-returns-2
 returns-2 c = rw (judged (c .before .before .before .before .args .m) (c .before .before .if1 .left), sym (c .before .typed-fine .ensures) ∙ not-true _ (c .if2 .taken))
 
-names-differ-requires : tie.Need-names-differ-requires
-names-differ-requires c κs = search needs
-
 returns-3 : tie.Need-returns-3
 returns-3 c = rw (judged (c .before .before .before .before .before .before .args .m) (c .before .before .before .before .if1 .left), sym (c .before .before .before .typed-fine .ensures) ∙ not-false _ (c .before .before .if2 .left), sym (c .before .names-differ .ensures) ∙ not-true _ (c .if3 .taken))
-
-ring-free-requires : tie.Need-ring-free-requires
-ring-free-requires c κs = search needs
 
 returns-4 : tie.Need-returns-4
 returns-4 c = rw (judged (c .before .before .before .before .before .before .before .args .m) (c .before .before .before .before .before .if1 .left), sym (c .before .before .before .before .typed-fine .ensures) ∙ not-false _ (c .before .before .before .if2 .left), sym (c .before .before .names-differ .ensures) ∙ not-false _ (c .before .if3 .left)) (c .ring-free .ensures)
@@ -33,11 +21,11 @@ pub memory-fine-spec : {M : Type 1} → statement M
 memory-fine-spec =
     tie.close
     (tie.spec
-    cast-if1
+    (λ c. search needs)
     returns
-    typed-fine-requires
+    (λ c κs. search needs)
     returns-2
-    names-differ-requires
+    (λ c κs. search needs)
     returns-3
-    ring-free-requires
+    (λ c κs. search needs)
     returns-4)

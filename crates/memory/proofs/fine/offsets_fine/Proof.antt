@@ -5,15 +5,6 @@ use mir.Val.{toZ, ofZ}
 use Rattle.memory.proofs.fine.offsets_fine.Statement.{statement}
 use Rattle.memory.proofs.fine.offsets_fine.Tie as tie
 
-offset-fine-requires : tie.Need-offset-fine-requires
-offset-fine-requires c κs = search needs
-
-offset-fine-requires-2 : tie.Need-offset-fine-requires-2
-offset-fine-requires-2 c κs = search needs
-
-offset-fine-requires-3 : tie.Need-offset-fine-requires-3
-offset-fine-requires-3 c κs = search needs
-
 returns : tie.Need-returns
 returns c =
     let t = c .before .before .before .before .before .before .args .t in
@@ -24,4 +15,4 @@ returns c =
 
 pub offsets-fine-spec : {M : Type 1} → statement M
 offsets-fine-spec =
-    tie.close (tie.spec offset-fine-requires offset-fine-requires-2 offset-fine-requires-3 returns)
+    tie.close (tie.spec (λ c κs. search needs) (λ c κs. search needs) (λ c κs. search needs) returns)

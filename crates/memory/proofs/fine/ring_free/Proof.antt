@@ -7,17 +7,11 @@ use Rattle.chains.proofs.Same.{links-no-ring}
 use Rattle.memory.proofs.fine.ring_free.Statement.{statement}
 use Rattle.memory.proofs.fine.ring_free.Tie as tie
 
-links-of-requires : tie.Need-links-of-requires
-links-of-requires c κs = search needs
-
 array-share-prefix-preds : tie.Need-array-share-prefix-preds
 array-share-prefix-preds c = let h : length (c .before .links-of .result .preds) ≡ maxSystems = search needs in omega (arith, c .before .links-of .ensures .few)
 
 slice-aggregate-no-ring : tie.Need-slice-aggregate-no-ring
 slice-aggregate-no-ring c = let h : length (c .before .before .links-of .result .preds) ≡ maxSystems = search needs in simp length-take (omega (arith, c .before .before .links-of .ensures .few))
-
-no-ring-requires : tie.Need-no-ring-requires
-no-ring-requires c κs = search needs
 
 returns : tie.Need-returns
 returns c = c .no-ring .ensures ∙ links-no-ring _ _ (c .before .before .before .links-of .ensures .links)
@@ -26,8 +20,8 @@ pub ring-free-spec : {M : Type 1} → statement M
 ring-free-spec =
     tie.close
     (tie.spec
-    links-of-requires
+    (λ c κs. search needs)
     array-share-prefix-preds
     slice-aggregate-no-ring
-    no-ring-requires
+    (λ c κs. search needs)
     returns)

@@ -7,22 +7,13 @@ use Rattle.memory.specs.Fine.{storedFine}
 use Rattle.memory.proofs.fine.stored_fine.Statement.{statement}
 use Rattle.memory.proofs.fine.stored_fine.Tie as tie
 
-cast-if1 : tie.Need-cast-if1
-cast-if1 c = search needs
-
 returns : tie.Need-returns
 unfolding storedFine systemFine
 returns c = λ l e. rw (lt-leb _ nameLimit (c .if1 .taken))
 
-own-fine-requires : tie.Need-own-fine-requires
-own-fine-requires c κs = search needs
-
 returns-2 : tie.Need-returns-2
 unfolding storedFine systemFine
 returns-2 c = λ l e. rw (le-leb _ nameLimit (c .before .before .if1 .left), sym (c .before .own-fine .ensures) ∙ not-true _ (c .if2 .taken))
-
-is-kind-requires : tie.Need-is-kind-requires
-is-kind-requires c κs = search needs
 
 returns-3 : tie.Need-returns-3
 unfolding storedFine systemFine
@@ -30,4 +21,4 @@ returns-3 c = λ l e. rw (le-leb _ nameLimit (c .before .before .before .if1 .le
 
 pub stored-fine-spec : {M : Type 1} → statement M
 stored-fine-spec =
-    tie.close (tie.spec cast-if1 returns own-fine-requires returns-2 is-kind-requires returns-3)
+    tie.close (tie.spec (λ c. search needs) returns (λ c κs. search needs) returns-2 (λ c κs. search needs) returns-3)

@@ -27,21 +27,9 @@ long c = search (length-mapped, needs)
 stored : (c : tie.At-loop Inv-loop μ-loop) → length (take (c .before .before .before .args .t1 .count) (c .before .before .before .args .t1 .systems)) ≡ c .before .held .result
 stored c = let h = long (c .before .before .before) in simp length-take (omega (arith, c .before .held .ensures))
 
-held-requires : tie.Need-held-requires Inv-loop μ-loop
-held-requires c κs = search needs
-
 loop-holds : tie.Need-loop-holds Inv-loop μ-loop
 unfolding storedAllFine
 loop-holds c = (search needs, λ e. refl)
-
-mul-s : tie.Need-mul-s Inv-loop μ-loop
-mul-s c = search needs
-
-element-copy-out-s : tie.Need-element-copy-out-s Inv-loop μ-loop
-element-copy-out-s c = search needs
-
-stored-fine-requires : tie.Need-stored-fine-requires Inv-loop μ-loop
-stored-fine-requires c κs = search needs
 
 returns : tie.Need-returns Inv-loop μ-loop
 returns c =
@@ -51,12 +39,6 @@ returns c =
     let m = c .before .before .before .before .before .before .before .args .t1 in
     let at = getD-take (m .count) (m .systems) (l .loop .i) unset (omega (arith, l .before .held .ensures)) in
     sym (l .loop .inv .1 e ∙ all-stop (storedFine (systemsOf m)) _ (l .loop .i) _ (omega arith) (ap (storedFine (systemsOf m)) at ∙ sym (c .before .stored-fine .ensures _ e) ∙ not-true _ (c .if1 .taken)))
-
-add-i : tie.Need-add-i Inv-loop μ-loop
-add-i c = search needs
-
-loop-less : tie.Need-loop-less Inv-loop μ-loop
-loop-less c = search needs
 
 loop-again : tie.Need-loop-again Inv-loop μ-loop
 loop-again c =
@@ -79,13 +61,13 @@ systems-fine-spec =
     (tie.spec
     Inv-loop
     μ-loop
-    held-requires
+    (λ c κs. search needs)
     loop-holds
-    mul-s
-    element-copy-out-s
-    stored-fine-requires
+    (λ c. search needs)
+    (λ c. search needs)
+    (λ c κs. search needs)
     returns
-    add-i
-    loop-less
+    (λ c. search needs)
+    (λ c. search needs)
     loop-again
     returns-2)

@@ -13,26 +13,11 @@ use Rattle.memory.proofs.fine.typed_fine.Tie as tie
 codes : (c : tie.After-kind-codes) → codesOf (systemsOf (c .before .before .args .m)) ≡ take (c .before .held .result) (c .kind-codes .result)
 codes c = rw (c .before .held .ensures) (sym (c .kind-codes .ensures))
 
-held-requires : tie.Need-held-requires
-held-requires c κs = search needs
-
-kind-codes-requires : tie.Need-kind-codes-requires
-kind-codes-requires c κs = search needs
-
-array-share-prefix-all : tie.Need-array-share-prefix-all
-array-share-prefix-all c = search needs
-
 slice-aggregate-codes : tie.Need-slice-aggregate-codes
 slice-aggregate-codes c = let h : length (c .before .kind-codes .result) ≡ maxSystems = search needs in simp length-take (omega (arith, c .before .before .held .ensures))
 
-systems-fine-requires : tie.Need-systems-fine-requires
-systems-fine-requires c κs = search needs
-
 returns : tie.Need-returns
 returns c = rw (sym (c .before .systems-fine .ensures (codes (c .before .before .before))) ∙ not-true _ (c .if1 .taken))
-
-enabled-fine-requires : tie.Need-enabled-fine-requires
-enabled-fine-requires c κs = search needs
 
 returns-2 : tie.Need-returns-2
 returns-2 c = rw (sym (c .before .before .before .systems-fine .ensures (codes (c .before .before .before .before .before))) ∙ not-false _ (c .before .before .if1 .left)) (c .enabled-fine .ensures _ (codes (c .before .before .before .before .before)))
@@ -41,11 +26,11 @@ pub typed-fine-spec : {M : Type 1} → statement M
 typed-fine-spec =
     tie.close
     (tie.spec
-    held-requires
-    kind-codes-requires
-    array-share-prefix-all
+    (λ c κs. search needs)
+    (λ c κs. search needs)
+    (λ c. search needs)
     slice-aggregate-codes
-    systems-fine-requires
+    (λ c κs. search needs)
     returns
-    enabled-fine-requires
+    (λ c κs. search needs)
     returns-2)

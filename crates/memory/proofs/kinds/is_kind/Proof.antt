@@ -11,9 +11,6 @@ use Rattle.memory.proofs.kinds.is_kind.Tie as tie
 returns : tie.Need-returns
 returns c = λ l e. rw (c .if1 .taken) (sym (kind-fixed l _))
 
-sub-i : tie.Need-sub-i
-sub-i c = search needs
-
 returns-2 : tie.Need-returns-2
 returns-2 c =
     λ l e.
@@ -21,12 +18,6 @@ returns-2 c =
     let n : length l ≡ length (s .args .codes .now) = sym (length-map l codeOf) ∙ ap length e in
     let p : s .args .place ≡ suc (s .args .place - 1) = omega arith in
     rw p (sym (kind-beyond l _ (s .args .place - 1) (omega arith)))
-
-shared-slice-read-result : tie.Need-shared-slice-read-result
-shared-slice-read-result c = search needs
-
-code-of-requires : tie.Need-code-of-requires
-code-of-requires c κs = search needs
 
 returns-3 : tie.Need-returns-3
 returns-3 c =
@@ -40,4 +31,4 @@ returns-3 c =
 pub is-kind-spec : {M : Type 1} → statement M
 is-kind-spec =
     tie.close
-    (tie.spec returns sub-i returns-2 shared-slice-read-result code-of-requires returns-3)
+    (tie.spec returns (λ c. search needs) returns-2 (λ c. search needs) (λ c κs. search needs) returns-3)

@@ -23,12 +23,6 @@ returns c = sym (legal-none _ (c .if1 .taken))
 returns-2 : tie.Need-returns-2 Inv-loop μ-loop
 returns-2 c = sym (legal-long _ (c .if2 .taken))
 
-shared-slice-read-between : tie.Need-shared-slice-read-between Inv-loop μ-loop
-shared-slice-read-between c = search needs
-
-between-requires : tie.Need-between-requires Inv-loop μ-loop
-between-requires c κs = search needs
-
 returns-3 : tie.Need-returns-3 Inv-loop μ-loop
 returns-3 c =
     sym (legal-first _ (sym (c .before .between .ensures) ∙ not-true _ (c .if3 .taken)))
@@ -36,22 +30,10 @@ returns-3 c =
 loop-holds : tie.Need-loop-holds Inv-loop μ-loop
 loop-holds c = (search needs, refl, legal-rest _ (omega arith) (omega arith) (sym (c .before .between .ensures) ∙ not-false _ (c .if3 .left)))
 
-shared-slice-read-name-byte : tie.Need-shared-slice-read-name-byte Inv-loop μ-loop
-shared-slice-read-name-byte c = search needs
-
-name-byte-requires : tie.Need-name-byte-requires Inv-loop μ-loop
-name-byte-requires c κs = search needs
-
 returns-4 : tie.Need-returns-4 Inv-loop μ-loop
 returns-4 c =
     let l = c .before .before .before .before in
     sym (l .loop .inv .2 ∙ all-stop nameByte _ (l .loop .i) 0 (omega arith) (sym (c .before .name-byte .ensures) ∙ not-true _ (c .if4 .taken)))
-
-add-i : tie.Need-add-i Inv-loop μ-loop
-add-i c = search needs
-
-loop-less : tie.Need-loop-less Inv-loop μ-loop
-loop-less c = search needs
 
 loop-again : tie.Need-loop-again Inv-loop μ-loop
 loop-again c =
@@ -69,14 +51,14 @@ legal-bytes-spec =
     μ-loop
     returns
     returns-2
-    shared-slice-read-between
-    between-requires
+    (λ c. search needs)
+    (λ c κs. search needs)
     returns-3
     loop-holds
-    shared-slice-read-name-byte
-    name-byte-requires
+    (λ c. search needs)
+    (λ c κs. search needs)
     returns-4
-    add-i
-    loop-less
+    (λ c. search needs)
+    (λ c. search needs)
     loop-again
     returns-5)

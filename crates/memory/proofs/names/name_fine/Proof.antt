@@ -15,25 +15,16 @@ long c = search needs
 bytes : (c : tie.After-clipped) → take (c .clipped .result) (c .before .args .n .bytes) ≡ bytesOf (c .before .args .n)
 bytes c = name-bytes (c .before .args .n) _ (long (c .before)) (c .clipped .ensures)
 
-clipped-requires : tie.Need-clipped-requires
-clipped-requires c κs = search needs
-
 array-share-prefix-x : tie.Need-array-share-prefix-x
 array-share-prefix-x c = name-fits (c .before .before .args .n) _ (long (c .before .before)) (c .before .clipped .ensures)
 
 slice-aggregate-t : tie.Need-slice-aggregate-t
 slice-aggregate-t c = name-count _ _ (long (c .before .before .before)) (c .before .before .clipped .ensures)
 
-legal-bytes-requires : tie.Need-legal-bytes-requires
-legal-bytes-requires c κs = search needs
-
 returns : tie.Need-returns
 returns c =
     let k = c .before .before .before .before in
     rw (← bytes k, sym (c .before .legal-bytes .ensures) ∙ not-true _ (c .if1 .taken))
-
-reserved-bytes-requires : tie.Need-reserved-bytes-requires
-reserved-bytes-requires c κs = search needs
 
 returns-2 : tie.Need-returns-2
 returns-2 c =
@@ -44,10 +35,10 @@ pub name-fine-spec : {M : Type 1} → statement M
 name-fine-spec =
     tie.close
     (tie.spec
-    clipped-requires
+    (λ c κs. search needs)
     array-share-prefix-x
     slice-aggregate-t
-    legal-bytes-requires
+    (λ c κs. search needs)
     returns
-    reserved-bytes-requires
+    (λ c κs. search needs)
     returns-2)

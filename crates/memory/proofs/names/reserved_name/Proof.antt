@@ -9,17 +9,11 @@ use Rattle.memory.proofs.names.reserved_name.Tie as tie
 long : (c : tie.Start) → length (c .args .n .bytes) ≡ nameLimit
 long c = search needs
 
-clipped-requires : tie.Need-clipped-requires
-clipped-requires c κs = search needs
-
 array-share-prefix-x : tie.Need-array-share-prefix-x
 array-share-prefix-x c = name-fits (c .before .before .args .n) _ (long (c .before .before)) (c .before .clipped .ensures)
 
 slice-aggregate-reserved-bytes : tie.Need-slice-aggregate-reserved-bytes
 slice-aggregate-reserved-bytes c = name-count _ _ (long (c .before .before .before)) (c .before .before .clipped .ensures)
-
-reserved-bytes-requires : tie.Need-reserved-bytes-requires
-reserved-bytes-requires c κs = search needs
 
 returns : tie.Need-returns
 returns c =
@@ -30,8 +24,8 @@ pub reserved-name-spec : {M : Type 1} → statement M
 reserved-name-spec =
     tie.close
     (tie.spec
-    clipped-requires
+    (λ c κs. search needs)
     array-share-prefix-x
     slice-aggregate-reserved-bytes
-    reserved-bytes-requires
+    (λ c κs. search needs)
     returns)

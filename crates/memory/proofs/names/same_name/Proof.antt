@@ -12,12 +12,6 @@ long-a c = search needs
 long-b : (c : tie.Start) → length (c .args .b .bytes) ≡ nameLimit
 long-b c = search needs
 
-clipped-requires : tie.Need-clipped-requires
-clipped-requires c κs = search needs
-
-clipped-requires-2 : tie.Need-clipped-requires-2
-clipped-requires-2 c κs = search needs
-
 array-share-prefix-x : tie.Need-array-share-prefix-x
 array-share-prefix-x c = name-fits (c .before .before .before .before .args .a) _ (long-a (c .before .before .before .before)) (c .before .before .before .clipped .ensures)
 
@@ -30,9 +24,6 @@ array-share-prefix-y c = name-fits (c .before .before .before .before .before .a
 slice-aggregate-same-bytes-2 : tie.Need-slice-aggregate-same-bytes-2
 slice-aggregate-same-bytes-2 c = name-count _ _ (long-b (c .before .before .before .before .before .before)) (c .before .before .before .before .clipped2 .ensures)
 
-same-bytes-requires : tie.Need-same-bytes-requires
-same-bytes-requires c κs = search needs
-
 returns : tie.Need-returns
 returns c =
     let s = c .before .before .before .before .before .before .before in
@@ -42,11 +33,11 @@ pub same-name-spec : {M : Type 1} → statement M
 same-name-spec =
     tie.close
     (tie.spec
-    clipped-requires
-    clipped-requires-2
+    (λ c κs. search needs)
+    (λ c κs. search needs)
     array-share-prefix-x
     slice-aggregate-same-bytes
     array-share-prefix-y
     slice-aggregate-same-bytes-2
-    same-bytes-requires
+    (λ c κs. search needs)
     returns)

@@ -13,16 +13,10 @@ returns c =
     let s = d .before .before .before .before .before in
     λ i. record { at = (c .before .sum .ensures ∙ ap (plus (s .args .self .at)) (d .turn .ensures)) i; rot = c .compose .ensures i }
 
-turn-requires : tie.Need-turn-requires
-turn-requires c κs = search needs
-
 sum-requires : tie.Need-sum-requires
 sum-requires c κs =
     let s = c .before .before .before .before .before in
     (s .pre .0, subst (Within reach) (sym (c .turn .ensures)) (within-turned reach (s .args .self .rot) (s .args .own .at) (s .pre .1)))
 
-compose-requires : tie.Need-compose-requires
-compose-requires c κs = search needs
-
 pub follow-spec : {M : Type 1} → statement M
-follow-spec = tie.close (tie.spec turn-requires sum-requires compose-requires returns)
+follow-spec = tie.close (tie.spec (λ c κs. search needs) sum-requires (λ c κs. search needs) returns)

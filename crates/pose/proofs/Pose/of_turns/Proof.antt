@@ -3,14 +3,8 @@ use borrow.Author.Needs.{needs}
 use Rattle.pose.proofs.Pose.of_turns.Statement.{statement}
 use Rattle.pose.proofs.Pose.of_turns.Tie as tie
 
-neutral-requires : tie.Need-neutral-requires
-neutral-requires c κs = search needs
-
-named-requires : tie.Need-named-requires
-named-requires c κs = search needs
-
 returns : tie.Need-returns
 returns c = λ i. record { at = c .before .neutral .ensures i .at; rot = c .named .ensures i }
 
 pub of-turns-spec : {M : Type 1} → statement M
-of-turns-spec = tie.close (tie.spec neutral-requires named-requires returns)
+of-turns-spec = tie.close (tie.spec (λ c κs. search needs) (λ c κs. search needs) returns)

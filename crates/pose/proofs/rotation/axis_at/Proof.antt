@@ -16,23 +16,8 @@ last (suc (suc (suc zero))) h = absurd (omega arith)
 last (suc (suc (suc (suc zero)))) h = absurd (omega arith)
 last (suc (suc (suc (suc (suc n))))) h = refl
 
-returns : tie.Need-returns
-returns c = search needs
-
-returns-2 : tie.Need-returns-2
-returns-2 c = search needs
-
-returns-3 : tie.Need-returns-3
-returns-3 c = search needs
-
-returns-4 : tie.Need-returns-4
-returns-4 c = search needs
-
-returns-5 : tie.Need-returns-5
-returns-5 c = search needs
-
 returns-6 : tie.Need-returns-6
 returns-6 c = sym (last (c .before .args .n) (omega (arith, c .match .rest)))
 
 pub axis-at-spec : {M : Type 1} → statement M
-axis-at-spec = tie.close (tie.spec returns returns-2 returns-3 returns-4 returns-5 returns-6)
+axis-at-spec = tie.close (tie.spec (λ c. search needs) (λ c. search needs) (λ c. search needs) (λ c. search needs) (λ c. search needs) returns-6)

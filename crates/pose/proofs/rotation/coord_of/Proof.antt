@@ -21,29 +21,11 @@ module _ (z : ℤ) (h : natAbs z ≤ widest) where
   negative : read (pos 0 -ℤ read z) ≡ negℤ z
   negative = neg-reads z (omega arith)
 
-enum-told : tie.Need-enum-told
-enum-told c = search needs
-
-enum-told-2 : tie.Need-enum-told-2
-enum-told-2 c = search needs
-
 sub-result : tie.Need-sub-result
 sub-result c = let s = c .before .before .before .before in fits (s .args .v .x) (s .pre .x-within)
 
-enum-told-3 : tie.Need-enum-told-3
-enum-told-3 c = search needs
-
-enum-told-4 : tie.Need-enum-told-4
-enum-told-4 c = search needs
-
 sub-result-2 : tie.Need-sub-result-2
 sub-result-2 c = let s = c .before .before .before .before in fits (s .args .v .y) (s .pre .y-within)
-
-enum-told-5 : tie.Need-enum-told-5
-enum-told-5 c = search needs
-
-enum-told-6 : tie.Need-enum-told-6
-enum-told-6 c = search needs
 
 sub-result-3 : tie.Need-sub-result-3
 sub-result-3 c = let s = c .before .before .before .before in fits (s .args .v .z) (s .pre .z-within)
@@ -76,14 +58,14 @@ pub coord-of-spec : {M : Type 1} → statement M
 coord-of-spec =
     tie.close
     (tie.spec
-    enum-told
-    enum-told-2
+    (λ c. search needs)
+    (λ c. search needs)
     sub-result
-    enum-told-3
-    enum-told-4
+    (λ c. search needs)
+    (λ c. search needs)
     sub-result-2
-    enum-told-5
-    enum-told-6
+    (λ c. search needs)
+    (λ c. search needs)
     sub-result-3
     returns
     returns-2

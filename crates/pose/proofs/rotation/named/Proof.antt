@@ -23,21 +23,6 @@ entry : (k : ℕ) → k < 64 → rotAt (getD table k 0) ≡ rotOf (triple k)
 unfolding table right times rotOf sameRot
 entry k h = same-is (rotAt (getD table k 0)) (rotOf (triple k)) (at 64 right tt k h)
 
-place-of-requires : tie.Need-place-of-requires
-place-of-requires c κs = search needs
-
-array-read-n : tie.Need-array-read-n
-array-read-n c = search needs
-
-axis-at-requires : tie.Need-axis-at-requires
-axis-at-requires c κs = search needs
-
-axis-at-requires-2 : tie.Need-axis-at-requires-2
-axis-at-requires-2 c κs = search needs
-
-axis-at-requires-3 : tie.Need-axis-at-requires-3
-axis-at-requires-3 c κs = search needs
-
 returns : tie.Need-returns
 unfolding table
 returns c =
@@ -52,9 +37,9 @@ pub named-spec : {M : Type 1} → statement M
 named-spec =
     tie.close
     (tie.spec
-    place-of-requires
-    array-read-n
-    axis-at-requires
-    axis-at-requires-2
-    axis-at-requires-3
+    (λ c κs. search needs)
+    (λ c. search needs)
+    (λ c κs. search needs)
+    (λ c κs. search needs)
+    (λ c κs. search needs)
     returns)

@@ -38,30 +38,6 @@ entry : (k : ℕ) → k < 216 → triple (getD table k 0) ≡ shown (rotAt k)
 unfolding table right sameTurns shown least times rotOf sameRot
 entry k h = same-turns _ _ (at 216 right tt k h)
 
-number-requires : tie.Need-number-requires
-number-requires c κs = search needs
-
-number-requires-2 : tie.Need-number-requires-2
-number-requires-2 c κs = search needs
-
-number-requires-3 : tie.Need-number-requires-3
-number-requires-3 c κs = search needs
-
-mul-s : tie.Need-mul-s
-mul-s c = search needs
-
-mul-s-2 : tie.Need-mul-s-2
-mul-s-2 c = search needs
-
-add-s : tie.Need-add-s
-add-s c = search needs
-
-add-s-2 : tie.Need-add-s-2
-add-s-2 c = search needs
-
-array-read-s : tie.Need-array-read-s
-array-read-s c = search needs
-
 returns : tie.Need-returns
 unfolding table
 returns c =
@@ -74,12 +50,12 @@ pub shown-of-spec : {M : Type 1} → statement M
 shown-of-spec =
     tie.close
     (tie.spec
-    number-requires
-    number-requires-2
-    number-requires-3
-    mul-s
-    mul-s-2
-    add-s
-    add-s-2
-    array-read-s
+    (λ c κs. search needs)
+    (λ c κs. search needs)
+    (λ c κs. search needs)
+    (λ c. search needs)
+    (λ c. search needs)
+    (λ c. search needs)
+    (λ c. search needs)
+    (λ c. search needs)
     returns)

@@ -6,15 +6,6 @@ use borrow.Author.Needs.{needs, sfits-of}
 use Rattle.pose.proofs.rotation.turn.Statement.{statement}
 use Rattle.pose.proofs.rotation.turn.Tie as tie
 
-coord-of-requires : tie.Need-coord-of-requires
-coord-of-requires c κs = search needs
-
-coord-of-requires-2 : tie.Need-coord-of-requires-2
-coord-of-requires-2 c κs = search needs
-
-coord-of-requires-3 : tie.Need-coord-of-requires-3
-coord-of-requires-3 c κs = search needs
-
 returns : tie.Need-returns
 returns c =
     let c2 = c .before in
@@ -27,4 +18,4 @@ returns c =
     }
 
 pub turn-spec : {M : Type 1} → statement M
-turn-spec = tie.close (tie.spec coord-of-requires coord-of-requires-2 coord-of-requires-3 returns)
+turn-spec = tie.close (tie.spec (λ c κs. search needs) (λ c κs. search needs) (λ c κs. search needs) returns)

@@ -54,50 +54,20 @@ named c p i h e n = let s = c .before .before .before .before .before .before .b
 
 -- ---- the needs
 
-first-place-requires : tie.Need-first-place-requires
-first-place-requires c κs = search needs
-
-slot-requires : tie.Need-slot-requires
-slot-requires c κs = search needs
-
-tool-place-requires : tie.Need-tool-place-requires
-tool-place-requires c κs = search needs
-
-slot-requires-2 : tie.Need-slot-requires-2
-slot-requires-2 c κs = search needs
-
-slot-requires-3 : tie.Need-slot-requires-3
-slot-requires-3 c κs = search needs
-
-slot-requires-4 : tie.Need-slot-requires-4
-slot-requires-4 c κs = search needs
-
-mul-a : tie.Need-mul-a
-mul-a c = search needs
-
 element-copy-out-a : tie.Need-element-copy-out-a
 element-copy-out-a c =
     let s = c .before .before .before .before .before .before .before .before in
     omega (arith, first-within (s .args .t1) (s .pre .0) (long s), few (s .args .t1) (s .pre .0 .shape) (long s), c .before .before .before .before .slot .ensures, c .before .before .before .before .before .first-place .ensures)
-
-mul-b : tie.Need-mul-b
-mul-b c = search needs
 
 element-copy-out-b : tie.Need-element-copy-out-b
 element-copy-out-b c =
     let s = c .before .before .before .before .before .before .before .before .before in
     omega (arith, tool-within (s .args .t1) (s .pre .0) (long s), few (s .args .t1) (s .pre .0 .shape) (long s), c .before .before .before .slot2 .ensures, c .before .before .before .before .tool-place .ensures)
 
-mul-o : tie.Need-mul-o
-mul-o c = search needs
-
 element-copy-out-o : tie.Need-element-copy-out-o
 element-copy-out-o c =
     let s = c .before .before .before .before .before .before .before .before .before .before in
     omega (arith, orientational-within (s .args .t1) (s .pre .0) (long s), few (s .args .t1) (s .pre .0 .shape) (long s), c .before .before .before .slot3 .ensures)
-
-mul-l : tie.Need-mul-l
-mul-l c = search needs
 
 element-copy-out-l : tie.Need-element-copy-out-l
 element-copy-out-l c =
@@ -155,19 +125,19 @@ pub enabled-spec : {M : Type 1} → statement M
 enabled-spec =
     tie.close
     (tie.spec
-    first-place-requires
-    slot-requires
-    tool-place-requires
-    slot-requires-2
-    slot-requires-3
-    slot-requires-4
-    mul-a
+    (λ c κs. search needs)
+    (λ c κs. search needs)
+    (λ c κs. search needs)
+    (λ c κs. search needs)
+    (λ c κs. search needs)
+    (λ c κs. search needs)
+    (λ c. search needs)
     element-copy-out-a
-    mul-b
+    (λ c. search needs)
     element-copy-out-b
-    mul-o
+    (λ c. search needs)
     element-copy-out-o
-    mul-l
+    (λ c. search needs)
     element-copy-out-l
     put-enabled-requires
     put-tool-requires

@@ -25,9 +25,6 @@ put-byte-requires c κs =
     let k = j .before .before .before .before in
     omega (arith, s .pre .1, length-groups (s .args .e) (systemOf (s .args .o)) (systemOf (s .args .l)), k .put-next .ensures .place, k .put-next .kept .0, j .put-next2 .ensures .place, j .put-next2 .kept .0)
 
-same-length : tie.Need-same-length
-same-length c = search needs
-
 returns : tie.Need-returns
 unfolding groupsText
 returns c =
@@ -39,4 +36,4 @@ returns c =
 pub put-groups-spec : {M : Type 1} → statement M
 put-groups-spec =
     tie.close
-    (tie.spec put-next-requires put-next-requires-2 put-byte-requires same-length returns)
+    (tie.spec put-next-requires put-next-requires-2 put-byte-requires (λ c. search needs) returns)

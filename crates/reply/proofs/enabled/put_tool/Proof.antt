@@ -20,14 +20,8 @@ line c =
     let e = sym (c .before .before .is-pair .ensures) ∙ not-false _ (c .before .if1 .left) in
     rw (c .tool-place .ensures) (tool-line (s .args .part) (systemOf (s .args .s)) e)
 
-is-pair-requires : tie.Need-is-pair-requires
-is-pair-requires c κs = search needs
-
 returns : tie.Need-returns
 returns c = rw (none c) (wrote-none _ _)
-
-tool-place-requires : tie.Need-tool-place-requires
-tool-place-requires c κs = search needs
 
 put-next-requires : tie.Need-put-next-requires
 put-next-requires c κs =
@@ -35,13 +29,10 @@ put-next-requires c κs =
     let s = c .before .before .before .before .before in
     (rw (t .tool-place .ensures) (s .pre .0), rw (line t) at (s .pre .1))
 
-same-length : tie.Need-same-length
-same-length c = search needs
-
 returns-2 : tie.Need-returns-2
 returns-2 c = let k = c .before .before in rw (line (k .before .before)) (k .put-next .ensures)
 
 pub put-tool-spec : {M : Type 1} → statement M
 put-tool-spec =
     tie.close
-    (tie.spec is-pair-requires returns tool-place-requires put-next-requires same-length returns-2)
+    (tie.spec (λ c κs. search needs) returns (λ c κs. search needs) put-next-requires (λ c. search needs) returns-2)

@@ -28,21 +28,9 @@ user c = let s = c .before .before in enabled-user (s .args .g) (s .args .place)
 user-long : (c : tie.Else1) → length (text (c .before .before)) ≡ length (bytesOf (c .before .before .args .s .name)) + 1 + length (ofKind (c .before .before .args .s .kind) .shown)
 user-long c = rw (user c, length-append) (omega arith)
 
-slice-aggregate-put-by-group : tie.Need-slice-aggregate-put-by-group
-slice-aggregate-put-by-group c = search needs
-
-slice-aggregate-put-by-group-2 : tie.Need-slice-aggregate-put-by-group-2
-slice-aggregate-put-by-group-2 c = search needs
-
-slice-aggregate-put-by-group-3 : tie.Need-slice-aggregate-put-by-group-3
-slice-aggregate-put-by-group-3 c = search needs
-
 put-by-group-requires : tie.Need-put-by-group-requires
 unfolding text
 put-by-group-requires c κs = let t = c .before .before .before .before in rw (fixed t) at (t .before .before .pre .1)
-
-same-length : tie.Need-same-length
-same-length c = search needs
 
 returns : tie.Need-returns
 unfolding text
@@ -52,9 +40,6 @@ put-name-requires : tie.Need-put-name-requires
 unfolding text
 put-name-requires c κs = let t = c .before in (t .before .before .pre .0 (omega arith), omega (arith, user-long t))
 
-slice-aggregate-put-text : tie.Need-slice-aggregate-put-text
-slice-aggregate-put-text c = search needs
-
 put-text-requires : tie.Need-put-text-requires
 unfolding text
 put-text-requires c κs = omega (arith, user-long (c .before .before .before .before .before .before))
@@ -62,9 +47,6 @@ put-text-requires c κs = omega (arith, user-long (c .before .before .before .be
 put-kind-requires : tie.Need-put-kind-requires
 unfolding text
 put-kind-requires c κs = omega (arith, user-long (c .before .before .before .before .before .before .before .before .before .before))
-
-same-length-2 : tie.Need-same-length-2
-same-length-2 c = search needs
 
 returns-2 : tie.Need-returns-2
 unfolding text
@@ -78,15 +60,15 @@ pub put-enabled-spec : {M : Type 1} → statement M
 put-enabled-spec =
     tie.close
     (tie.spec
-    slice-aggregate-put-by-group
-    slice-aggregate-put-by-group-2
-    slice-aggregate-put-by-group-3
+    (λ c. search needs)
+    (λ c. search needs)
+    (λ c. search needs)
     put-by-group-requires
-    same-length
+    (λ c. search needs)
     returns
     put-name-requires
-    slice-aggregate-put-text
+    (λ c. search needs)
     put-text-requires
     put-kind-requires
-    same-length-2
+    (λ c. search needs)
     returns-2)

@@ -3,22 +3,10 @@ use borrow.Author.Needs.{needs}
 use Rattle.reply.proofs.lines.put_further_system.Statement.{statement}
 use Rattle.reply.proofs.lines.put_further_system.Tie as tie
 
-slice-aggregate-put-text : tie.Need-slice-aggregate-put-text
-slice-aggregate-put-text c = search needs
-
-put-text-requires : tie.Need-put-text-requires
-put-text-requires c κs = search needs
-
-put-system-requires : tie.Need-put-system-requires
-put-system-requires c κs = search needs
-
-same-length : tie.Need-same-length
-same-length c = search needs
-
 returns : tie.Need-returns
 returns c = let k = c .before .before in wrote-then (k .before .before .before .before .put-text .ensures) (k .put-system .ensures)
 
 pub put-further-system-spec : {M : Type 1} → statement M
 put-further-system-spec =
     tie.close
-    (tie.spec slice-aggregate-put-text put-text-requires put-system-requires same-length returns)
+    (tie.spec (λ c. search needs) (λ c κs. search needs) (λ c κs. search needs) (λ c. search needs) returns)

@@ -13,23 +13,14 @@ fixed c = pred-fixed (systemOf (c .before .before .before .args .s)) (bytesOf (c
 user : (c : tie.Else1) → predText (systemOf (c .before .before .before .args .s)) (bytesOf (c .before .before .before .args .pred)) ≡ bytesOf (c .before .before .before .args .pred)
 user c = pred-user (systemOf (c .before .before .before .args .s)) (bytesOf (c .before .before .before .args .pred)) (c .if1 .left)
 
-group-of-requires : tie.Need-group-of-requires
-group-of-requires c κs = search needs
-
 put-fixed-name-requires : tie.Need-put-fixed-name-requires
 put-fixed-name-requires c κs = rw (c .group-of .ensures) (rw (fixed (c .before .before)) at (c .before .before .before .before .before .pre .1))
-
-same-length : tie.Need-same-length
-same-length c = search needs
 
 returns : tie.Need-returns
 returns c = let k = c .before .before in rw (fixed (k .before .before .before)) (rw (k .before .group-of .ensures) at (k .put-fixed-name .ensures))
 
 put-name-requires : tie.Need-put-name-requires
 put-name-requires c κs = let s = c .before .before .before .before in (s .pre .0, rw (user (c .before)) at (s .pre .1))
-
-same-length-2 : tie.Need-same-length-2
-same-length-2 c = search needs
 
 returns-2 : tie.Need-returns-2
 returns-2 c = let k = c .before .before in rw (user (k .before .before)) (k .put-name .ensures)
@@ -38,10 +29,10 @@ pub put-pred-spec : {M : Type 1} → statement M
 put-pred-spec =
     tie.close
     (tie.spec
-    group-of-requires
+    (λ c κs. search needs)
     put-fixed-name-requires
-    same-length
+    (λ c. search needs)
     returns
     put-name-requires
-    same-length-2
+    (λ c. search needs)
     returns-2)

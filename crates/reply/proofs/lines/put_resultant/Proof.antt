@@ -17,17 +17,11 @@ long : (s : tie.Start) → length (resultantText (bytesOf (s .args .name)) (s .a
     ≡ 33 + length (bytesOf (s .args .name)) + length (ofGroup (s .args .g) .end) + length (sixValues (s .args .t) (s .args .r)) + length (decimal (s .args .steps))
 long s = length-resultant (bytesOf (s .args .name)) (s .args .g) (s .args .t) (s .args .r) (s .args .steps)
 
-slice-aggregate-put-text : tie.Need-slice-aggregate-put-text
-slice-aggregate-put-text c = search needs
-
 put-text-requires : tie.Need-put-text-requires
 put-text-requires c κs = omega (arith, long (c .before .before .before))
 
 put-name-requires : tie.Need-put-name-requires
 put-name-requires c κs = (c .before .before .before .before .before .before .before .pre .0, omega (arith, long (c .before .before .before .before .before .before .before)))
-
-slice-aggregate-put-text-2 : tie.Need-slice-aggregate-put-text-2
-slice-aggregate-put-text-2 c = search needs
 
 put-text-requires-2 : tie.Need-put-text-requires-2
 put-text-requires-2 c κs = omega (arith, long (c .before .before .before .before .before .before .before .before .before .before .before .before))
@@ -38,17 +32,11 @@ put-end-requires c κs = omega (arith, long (c .before .before .before .before .
 put-six-values-requires : tie.Need-put-six-values-requires
 put-six-values-requires c κs = let s = c .before .before .before .before .before .before .before .before .before .before .before .before .before .before .before .before .before .before .before .before in (s .pre .1, s .pre .2, omega (arith, long s))
 
-slice-aggregate-put-text-3 : tie.Need-slice-aggregate-put-text-3
-slice-aggregate-put-text-3 c = search needs
-
 put-text-requires-3 : tie.Need-put-text-requires-3
 put-text-requires-3 c κs = omega (arith, long (c .before .before .before .before .before .before .before .before .before .before .before .before .before .before .before .before .before .before .before .before .before .before .before .before .before))
 
 put-decimal-requires : tie.Need-put-decimal-requires
 put-decimal-requires c κs = omega (arith, long (c .before .before .before .before .before .before .before .before .before .before .before .before .before .before .before .before .before .before .before .before .before .before .before .before .before .before .before .before .before))
-
-same-length : tie.Need-same-length
-same-length c = search needs
 
 returns : tie.Need-returns
 unfolding resultantText joined
@@ -67,15 +55,15 @@ pub put-resultant-spec : {M : Type 1} → statement M
 put-resultant-spec =
     tie.close
     (tie.spec
-    slice-aggregate-put-text
+    (λ c. search needs)
     put-text-requires
     put-name-requires
-    slice-aggregate-put-text-2
+    (λ c. search needs)
     put-text-requires-2
     put-end-requires
     put-six-values-requires
-    slice-aggregate-put-text-3
+    (λ c. search needs)
     put-text-requires-3
     put-decimal-requires
-    same-length
+    (λ c. search needs)
     returns)

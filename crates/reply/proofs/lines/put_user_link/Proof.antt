@@ -11,17 +11,11 @@ use Rattle.reply.proofs.lines.put_user_link.Tie as tie
 put-name-requires : tie.Need-put-name-requires
 put-name-requires c κs = let s = c .before .before in (s .pre .0, omega (arith, s .pre .2, length-link (systemOf (s .args .s)) (bytesOf (s .args .pred))))
 
-slice-aggregate-put-text : tie.Need-slice-aggregate-put-text
-slice-aggregate-put-text c = search needs
-
 put-text-requires : tie.Need-put-text-requires
 put-text-requires c κs = let s = c .before .before .before .before .before .before .before in omega (arith, length-link (systemOf (s .args .s)) (bytesOf (s .args .pred)))
 
 put-pred-requires : tie.Need-put-pred-requires
 put-pred-requires c κs = let s = c .before .before .before .before .before .before .before .before .before .before .before in (s .pre .1, omega (arith, length-link (systemOf (s .args .s)) (bytesOf (s .args .pred))))
-
-same-length : tie.Need-same-length
-same-length c = search needs
 
 returns : tie.Need-returns
 unfolding linkText joined
@@ -34,4 +28,4 @@ returns c =
 pub put-user-link-spec : {M : Type 1} → statement M
 put-user-link-spec =
     tie.close
-    (tie.spec put-name-requires slice-aggregate-put-text put-text-requires put-pred-requires same-length returns)
+    (tie.spec put-name-requires (λ c. search needs) put-text-requires put-pred-requires (λ c. search needs) returns)

@@ -8,17 +8,11 @@ use borrow.Author.Needs.{needs}
 use Rattle.reply.proofs.lines.put_user_system.Statement.{statement}
 use Rattle.reply.proofs.lines.put_user_system.Tie as tie
 
-slice-aggregate-put-text : tie.Need-slice-aggregate-put-text
-slice-aggregate-put-text c = search needs
-
 put-text-requires : tie.Need-put-text-requires
 put-text-requires c κs = omega (arith, length-system (systemOf (c .before .before .before .args .s)))
 
 put-name-requires : tie.Need-put-name-requires
 put-name-requires c κs = (c .before .before .before .before .before .before .before .pre .0 .name-fits, omega (arith, length-system (systemOf (c .before .before .before .before .before .before .before .args .s))))
-
-slice-aggregate-put-text-2 : tie.Need-slice-aggregate-put-text-2
-slice-aggregate-put-text-2 c = search needs
 
 put-text-requires-2 : tie.Need-put-text-requires-2
 put-text-requires-2 c κs = omega (arith, length-system (systemOf (c .before .before .before .before .before .before .before .before .before .before .before .before .args .s)))
@@ -28,9 +22,6 @@ put-kind-requires c κs = omega (arith, length-system (systemOf (c .before .befo
 
 put-six-values-requires : tie.Need-put-six-values-requires
 put-six-values-requires c κs = (c .before .before .before .before .before .before .before .before .before .before .before .before .before .before .before .before .before .before .before .before .pre .0 .offsets-fit, c .before .before .before .before .before .before .before .before .before .before .before .before .before .before .before .before .before .before .before .before .pre .0 .turns-fit, omega (arith, length-system (systemOf (c .before .before .before .before .before .before .before .before .before .before .before .before .before .before .before .before .before .before .before .before .args .s))))
-
-same-length : tie.Need-same-length
-same-length c = search needs
 
 returns : tie.Need-returns
 unfolding systemText joined
@@ -46,12 +37,12 @@ pub put-user-system-spec : {M : Type 1} → statement M
 put-user-system-spec =
     tie.close
     (tie.spec
-    slice-aggregate-put-text
+    (λ c. search needs)
     put-text-requires
     put-name-requires
-    slice-aggregate-put-text-2
+    (λ c. search needs)
     put-text-requires-2
     put-kind-requires
     put-six-values-requires
-    same-length
+    (λ c. search needs)
     returns)

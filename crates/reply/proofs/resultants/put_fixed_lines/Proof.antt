@@ -17,9 +17,6 @@ sub-put-further-line c = omega (arith, length-fixed (resultantLine []))
 part-put-further-line-start : tie.Need-part-put-further-line-start
 part-put-further-line-start c = omega (arith, length-fixed (resultantLine []))
 
-part-put-further-line-end : tie.Need-part-put-further-line-end
-part-put-further-line-end c = search needs
-
 put-further-line-requires : tie.Need-put-further-line-requires
 put-further-line-requires c κs = (λ h. absurd (omega arith), rw (length-take, length-drop) (omega (arith, length-fixed (resultantLine []))))
 
@@ -32,17 +29,11 @@ sub-put-further-line-2 c = omega (arith, length-fixed (resultantLine []))
 part-put-further-line-start-2 : tie.Need-part-put-further-line-start-2
 part-put-further-line-start-2 c = omega (arith, length-fixed (resultantLine []))
 
-part-put-further-line-end-2 : tie.Need-part-put-further-line-end-2
-part-put-further-line-end-2 c = search needs
-
 put-further-line-requires-2 : tie.Need-put-further-line-requires-2
 put-further-line-requires-2 c κs = (λ h. absurd (omega arith), rw (length-take, length-drop) (omega (arith, length-fixed (resultantLine []))))
 
 add-result : tie.Need-add-result
 add-result c = omega (arith, length-fixed (resultantLine []))
-
-same-length : tie.Need-same-length
-same-length c = search needs
 
 returns : tie.Need-returns
 returns c =
@@ -59,13 +50,13 @@ put-fixed-lines-spec =
     put-line-requires
     sub-put-further-line
     part-put-further-line-start
-    part-put-further-line-end
+    (λ c. search needs)
     put-further-line-requires
     add-i
     sub-put-further-line-2
     part-put-further-line-start-2
-    part-put-further-line-end-2
+    (λ c. search needs)
     put-further-line-requires-2
     add-result
-    same-length
+    (λ c. search needs)
     returns)

@@ -44,20 +44,11 @@ fits s =
 fixed : (c : tie.Then1) → text (c .before .before) ≡ resultantLine [] (fixedRef (c .before .before .args .g))
 fixed c = let s = c .before .before in ref-fixed (systemsOf (s .args .t1)) (s .args .g) (s .args .place) (c .if1 .taken)
 
-element-copy-out-first : tie.Need-element-copy-out-first
-element-copy-out-first c = omega arith
-
-unmoved-requires : tie.Need-unmoved-requires
-unmoved-requires c κs = search needs
-
 put-line-requires : tie.Need-put-line-requires
 put-line-requires c κs = (λ h. absurd (omega arith), omega (arith, fits (c .before .before .before .before .before), ap length (fixed (c .before .before .before))))
 
 put-byte-requires : tie.Need-put-byte-requires
 put-byte-requires c κs = omega (arith, fits (c .before .before .before .before .before .before .before .before .before), ap length (fixed (c .before .before .before .before .before .before .before)))
-
-same-length : tie.Need-same-length
-same-length c = search needs
 
 returns : tie.Need-returns
 unfolding listing
@@ -98,32 +89,8 @@ user c =
     ap (resultantLine l) (ref-user l (s .args .g) (s .args .place) (k .before .before .before .before .before .before .if1 .left) ∙ ap (λ (i : ℕ). userRef l (suc i)) (sym (k .slot .ensures)))
     ∙ rw (c .group-of .ensures) (reached-line (flat (k .before)) (slot-is k .0) (slot-is k .1) (r .reach .ensures .0))
 
-links-of-requires : tie.Need-links-of-requires
-links-of-requires c κs = search needs
-
-frames-of-requires : tie.Need-frames-of-requires
-frames-of-requires c κs = search needs
-
-cast-count : tie.Need-cast-count
-cast-count c = search needs
-
-slot-requires : tie.Need-slot-requires
-slot-requires c κs = search needs
-
-mul-s : tie.Need-mul-s
-mul-s c = search needs
-
 element-copy-out-s : tie.Need-element-copy-out-s
 element-copy-out-s c = slot-is c .2
-
-unmoved-requires-2 : tie.Need-unmoved-requires-2
-unmoved-requires-2 c κs = search needs
-
-slice-aggregate-reach : tie.Need-slice-aggregate-reach
-slice-aggregate-reach c = search needs
-
-slice-aggregate-reach-2 : tie.Need-slice-aggregate-reach-2
-slice-aggregate-reach-2 c = search needs
 
 array-share-prefix-preds : tie.Need-array-share-prefix-preds
 array-share-prefix-preds c = let f = flat (c .before .before .before .before .before) in omega (arith, f .many, held f)
@@ -135,9 +102,6 @@ reach-requires : tie.Need-reach-requires
 reach-requires c κs =
     let f = flat (c .before .before .before .before .before .before) in
     (can-walk f, (c .before .before .before .unmoved2 .ensures ∙ walked-fixed _ 0 refl, deep-enough f _ (c .before .before .before .before .before .before .before .before .before .before .before .before .before .pre .1 .1)))
-
-group-of-requires : tie.Need-group-of-requires
-group-of-requires c κs = search needs
 
 -- as the writer of a line has it, for a place that is a user system's
 shown : (c : tie.After-group-of) → let r = c .before .before in text (start r)
@@ -158,9 +122,6 @@ put-byte-requires-2 c κs =
     let k = c .before .before .before in
     omega (arith, fits (start (k .before .before .before)), ap length (shown (k .before)), k .put-line2 .ensures .place, k .put-line2 .kept .0)
 
-same-length-2 : tie.Need-same-length-2
-same-length-2 c = search needs
-
 returns-2 : tie.Need-returns-2
 unfolding listing
 returns-2 c =
@@ -172,26 +133,26 @@ pub resultant-at-spec : {M : Type 1} → statement M
 resultant-at-spec =
     tie.close
     (tie.spec
-    element-copy-out-first
-    unmoved-requires
+    (λ c. omega arith)
+    (λ c κs. search needs)
     put-line-requires
     put-byte-requires
-    same-length
+    (λ c. search needs)
     returns
-    links-of-requires
-    frames-of-requires
-    cast-count
-    slot-requires
-    mul-s
+    (λ c κs. search needs)
+    (λ c κs. search needs)
+    (λ c. search needs)
+    (λ c κs. search needs)
+    (λ c. search needs)
     element-copy-out-s
-    unmoved-requires-2
-    slice-aggregate-reach
-    slice-aggregate-reach-2
+    (λ c κs. search needs)
+    (λ c. search needs)
+    (λ c. search needs)
     array-share-prefix-preds
     slice-aggregate-reach-3
     reach-requires
-    group-of-requires
+    (λ c κs. search needs)
     put-line-requires-2
     put-byte-requires-2
-    same-length-2
+    (λ c. search needs)
     returns-2)

@@ -52,21 +52,6 @@ flat c = laid (c .before .before .before .before .before .before .before .before
 within : (c : tie.In-loop Inv-loop μ-loop) → c .before .loop .i < 16
 within c = omega (arith, held (flat c), c .loop-test .taken)
 
-links-of-requires : tie.Need-links-of-requires Inv-loop μ-loop
-links-of-requires c κs = search needs
-
-frames-of-requires : tie.Need-frames-of-requires Inv-loop μ-loop
-frames-of-requires c κs = search needs
-
-cast-count : tie.Need-cast-count Inv-loop μ-loop
-cast-count c = search needs
-
-unmoved-requires : tie.Need-unmoved-requires Inv-loop μ-loop
-unmoved-requires c κs = search needs
-
-element-copy-out-first : tie.Need-element-copy-out-first Inv-loop μ-loop
-element-copy-out-first c = omega arith
-
 put-fixed-lines-requires : tie.Need-put-fixed-lines-requires Inv-loop μ-loop
 put-fixed-lines-requires c κs = let s = c .before .before .before .before .before .before .before .before .before in omega (arith, plan-room (resultants-plan (s .args .t1) (s .pre .0) (s .args .reply .now) (s .pre .1) (long s)))
 
@@ -75,12 +60,6 @@ array-share-prefix-preds c = let f = laid (c .before .before .before .before .be
 
 slice-aggregate-ps : tie.Need-slice-aggregate-ps Inv-loop μ-loop
 slice-aggregate-ps c = taken (laid (c .before .before .before .before .before .before .before))
-
-slice-aggregate-xs : tie.Need-slice-aggregate-xs Inv-loop μ-loop
-slice-aggregate-xs c = search needs
-
-slice-aggregate-ts : tie.Need-slice-aggregate-ts Inv-loop μ-loop
-slice-aggregate-ts c = search needs
 
 loop-holds : tie.Need-loop-holds Inv-loop μ-loop
 loop-holds c =
@@ -98,9 +77,6 @@ shared-slice-read-reached-before c = let l = c .before .before in omega (arith, 
 
 cast-reached-before : tie.Need-cast-reached-before Inv-loop μ-loop
 cast-reached-before c = omega (arith, c .shared-slice-known .given (c .before .before .before .loop .i))
-
-reached-before-requires : tie.Need-reached-before-requires Inv-loop μ-loop
-reached-before-requires c κs = search needs
 
 mul-before : tie.Need-mul-before Inv-loop μ-loop
 mul-before c = omega (arith, c .reached-before .ensures, within (c .before .before .before))
@@ -136,12 +112,6 @@ sub-put-further-line c = omega (arith, going-within (turn c .before .loop .inv .
 
 part-put-further-line-start : tie.Need-part-put-further-line-start Inv-loop μ-loop
 part-put-further-line-start c = omega (arith, going-within (turn c .before .loop .inv .0))
-
-part-put-further-line-end : tie.Need-part-put-further-line-end Inv-loop μ-loop
-part-put-further-line-end c = omega arith
-
-group-of-requires : tie.Need-group-of-requires Inv-loop μ-loop
-group-of-requires c κs = search needs
 
 -- what is reached is what the line of the next place shows
 line-is : (c : tie.After-group-of Inv-loop μ-loop) → let l = turn (c .before .before) in let m = start l .args .t1 in
@@ -206,22 +176,22 @@ resultants-spec =
     (tie.spec
     Inv-loop
     μ-loop
-    links-of-requires
-    frames-of-requires
-    cast-count
-    unmoved-requires
-    element-copy-out-first
+    (λ c κs. search needs)
+    (λ c κs. search needs)
+    (λ c. search needs)
+    (λ c κs. search needs)
+    (λ c. omega arith)
     put-fixed-lines-requires
     array-share-prefix-preds
     slice-aggregate-ps
-    slice-aggregate-xs
-    slice-aggregate-ts
+    (λ c. search needs)
+    (λ c. search needs)
     loop-holds
     mul-s
     element-copy-out-s
     shared-slice-read-reached-before
     cast-reached-before
-    reached-before-requires
+    (λ c κs. search needs)
     mul-before
     array-copy-out-before
     add-reach
@@ -231,8 +201,8 @@ resultants-spec =
     array-set-from-known
     sub-put-further-line
     part-put-further-line-start
-    part-put-further-line-end
-    group-of-requires
+    (λ c. omega arith)
+    (λ c κs. search needs)
     add-put-further-line
     put-further-line-requires
     add-at

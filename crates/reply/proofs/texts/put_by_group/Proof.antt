@@ -2,38 +2,20 @@ use borrow.Author.Needs.{needs}
 use Rattle.reply.proofs.texts.put_by_group.Statement.{statement}
 use Rattle.reply.proofs.texts.put_by_group.Tie as tie
 
-enum-told : tie.Need-enum-told
-enum-told c = search needs
-
 put-text-requires : tie.Need-put-text-requires
 put-text-requires c κs = rw (c .before .enum-told .given .1) at (c .before .before .before .before .before .before .before .pre)
-
-enum-told-2 : tie.Need-enum-told-2
-enum-told-2 c = search needs
 
 put-text-requires-2 : tie.Need-put-text-requires-2
 put-text-requires-2 c κs = rw (c .before .enum-told2 .given .1) at (c .before .before .before .before .before .before .before .pre)
 
-enum-told-3 : tie.Need-enum-told-3
-enum-told-3 c = search needs
-
 put-text-requires-3 : tie.Need-put-text-requires-3
 put-text-requires-3 c κs = rw (c .before .enum-told3 .given .1) at (c .before .before .before .before .before .before .before .pre)
-
-same-length : tie.Need-same-length
-same-length c = search needs
 
 returns : tie.Need-returns
 returns c = let k = c .before .before in rw (k .before .before .enum-told .given .1) (k .put-text .ensures)
 
-same-length-2 : tie.Need-same-length-2
-same-length-2 c = search needs
-
 returns-2 : tie.Need-returns-2
 returns-2 c = let k = c .before .before in rw (k .before .before .enum-told2 .given .1) (k .put-text2 .ensures)
-
-same-length-3 : tie.Need-same-length-3
-same-length-3 c = search needs
 
 returns-3 : tie.Need-returns-3
 returns-3 c = let k = c .before .before in rw (k .before .before .enum-told3 .given .1) (k .put-text3 .ensures)
@@ -42,15 +24,15 @@ pub put-by-group-spec : {M : Type 1} → statement M
 put-by-group-spec =
     tie.close
     (tie.spec
-    enum-told
+    (λ c. search needs)
     put-text-requires
-    enum-told-2
+    (λ c. search needs)
     put-text-requires-2
-    enum-told-3
+    (λ c. search needs)
     put-text-requires-3
-    same-length
+    (λ c. search needs)
     returns
-    same-length-2
+    (λ c. search needs)
     returns-2
-    same-length-3
+    (λ c. search needs)
     returns-3)

@@ -5,17 +5,11 @@ use borrow.Author.Needs.{needs}
 use Rattle.reply.proofs.texts.put_offset.Statement.{statement}
 use Rattle.reply.proofs.texts.put_offset.Tie as tie
 
-put-label-requires : tie.Need-put-label-requires
-put-label-requires c κs = search needs
-
 put-value-requires : tie.Need-put-value-requires
 put-value-requires c κs =
     let l = c .before .before .before in
     let s = l .before .before .before in
     rw (toZ-ofZ (s .fits .z)) (omega (arith, s .pre .1), omega (arith, s .pre .0, s .pre .2, l .put-label .ensures .place, l .put-label .kept .0))
-
-same-length : tie.Need-same-length
-same-length c = search needs
 
 returns : tie.Need-returns
 returns c =
@@ -24,4 +18,4 @@ returns c =
     wrote-then (l .put-label .ensures) (rw (toZ-ofZ (l .before .before .before .fits .z)) at (v .put-value .ensures))
 
 pub put-offset-spec : {M : Type 1} → statement M
-put-offset-spec = tie.close (tie.spec put-label-requires put-value-requires same-length returns)
+put-offset-spec = tie.close (tie.spec (λ c κs. search needs) put-value-requires (λ c. search needs) returns)

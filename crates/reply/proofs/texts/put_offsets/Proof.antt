@@ -42,9 +42,6 @@ put-offset-requires-3 c κs =
       omega (arith, s .pre .1, length-offsets (s .args .t), rw (x-back s) at (k .put-offset .ensures .place), k .put-offset .kept .0, rw (y-back s) at (j .put-offset2 .ensures .place), j .put-offset2 .kept .0),
     )
 
-same-length : tie.Need-same-length
-same-length c = search needs
-
 returns : tie.Need-returns
 unfolding offsetsText
 returns c =
@@ -58,4 +55,4 @@ returns c =
 pub put-offsets-spec : {M : Type 1} → statement M
 put-offsets-spec =
     tie.close
-    (tie.spec put-offset-requires put-offset-requires-2 put-offset-requires-3 same-length returns)
+    (tie.spec put-offset-requires put-offset-requires-2 put-offset-requires-3 (λ c. search needs) returns)

@@ -14,9 +14,6 @@ put-turns-requires c κs =
     let s = k .before .before .before in
     (s .pre .1, omega (arith, length-six (s .args .t) (s .args .r)))
 
-same-length : tie.Need-same-length
-same-length c = search needs
-
 returns : tie.Need-returns
 returns c =
     let j = c .before .before in
@@ -26,4 +23,4 @@ returns c =
 
 pub put-six-values-spec : {M : Type 1} → statement M
 put-six-values-spec =
-    tie.close (tie.spec put-offsets-requires put-turns-requires same-length returns)
+    tie.close (tie.spec put-offsets-requires put-turns-requires (λ c. search needs) returns)

@@ -28,9 +28,6 @@ put-turn-requires-3 c κs =
       omega (arith, s .pre .1, length-turns (s .args .r), k .put-turn .ensures .place, k .put-turn .kept .0, j .put-turn2 .ensures .place, j .put-turn2 .kept .0),
     )
 
-same-length : tie.Need-same-length
-same-length c = search needs
-
 returns : tie.Need-returns
 unfolding turnsText
 returns c =
@@ -42,4 +39,4 @@ returns c =
 pub put-turns-spec : {M : Type 1} → statement M
 put-turns-spec =
     tie.close
-    (tie.spec put-turn-requires put-turn-requires-2 put-turn-requires-3 same-length returns)
+    (tie.spec put-turn-requires put-turn-requires-2 put-turn-requires-3 (λ c. search needs) returns)

@@ -7,63 +7,6 @@ use Rattle.request.proofs.Says.{says-as, says-plain}
 use Rattle.request.proofs.arguments.arguments.Statement.{statement}
 use Rattle.request.proofs.arguments.arguments.Tie as tie
 
-enum-told : tie.Need-enum-told
-enum-told c = search needs
-
-plain-requires : tie.Need-plain-requires
-plain-requires c κs = search needs
-
-enum-known-form : tie.Need-enum-known-form
-enum-known-form c = search needs
-
-defining-requires : tie.Need-defining-requires
-defining-requires c κs = search needs
-
-enum-known-form-2 : tie.Need-enum-known-form-2
-enum-known-form-2 c = search needs
-
-one-name-requires : tie.Need-one-name-requires
-one-name-requires c κs = search needs
-
-enum-known-form-3 : tie.Need-enum-known-form-3
-enum-known-form-3 c = search needs
-
-two-names-requires : tie.Need-two-names-requires
-two-names-requires c κs = search needs
-
-enum-known-form-4 : tie.Need-enum-known-form-4
-enum-known-form-4 c = search needs
-
-slice-aggregate-only-word : tie.Need-slice-aggregate-only-word
-slice-aggregate-only-word c = search needs
-
-only-word-requires : tie.Need-only-word-requires
-only-word-requires c κs = search needs
-
-if-fine-requires : tie.Need-if-fine-requires
-if-fine-requires c κs = search needs
-
-enum-known-form-5 : tie.Need-enum-known-form-5
-enum-known-form-5 c = search needs
-
-ended-requires : tie.Need-ended-requires
-ended-requires c κs = search needs
-
-if-fine-requires-2 : tie.Need-if-fine-requires-2
-if-fine-requires-2 c κs = search needs
-
-enum-told-2 : tie.Need-enum-told-2
-enum-told-2 c = search needs
-
-level-requires : tie.Need-level-requires
-level-requires c κs = search needs
-
-enum-told-3 : tie.Need-enum-told-3
-enum-told-3 c = search needs
-
-resultants-requires : tie.Need-resultants-requires
-resultants-requires c κs = search needs
-
 returns : tie.Need-returns
 returns c = rw (c .before .enum-told .given .1) (says-plain Unknown (c .plain .ensures) refl)
 
@@ -98,25 +41,25 @@ pub arguments-spec : {M : Type 1} → statement M
 arguments-spec =
     tie.close
     (tie.spec
-    enum-told
-    plain-requires
-    enum-known-form
-    defining-requires
-    enum-known-form-2
-    one-name-requires
-    enum-known-form-3
-    two-names-requires
-    enum-known-form-4
-    slice-aggregate-only-word
-    only-word-requires
-    if-fine-requires
-    enum-known-form-5
-    ended-requires
-    if-fine-requires-2
-    enum-told-2
-    level-requires
-    enum-told-3
-    resultants-requires
+    (λ c. search needs)
+    (λ c κs. search needs)
+    (λ c. search needs)
+    (λ c κs. search needs)
+    (λ c. search needs)
+    (λ c κs. search needs)
+    (λ c. search needs)
+    (λ c κs. search needs)
+    (λ c. search needs)
+    (λ c. search needs)
+    (λ c κs. search needs)
+    (λ c κs. search needs)
+    (λ c. search needs)
+    (λ c κs. search needs)
+    (λ c κs. search needs)
+    (λ c. search needs)
+    (λ c κs. search needs)
+    (λ c. search needs)
+    (λ c κs. search needs)
     returns
     returns-2
     returns-3

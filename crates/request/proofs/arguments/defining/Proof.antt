@@ -30,14 +30,8 @@ W n = wordOf (Line n) (n .next-word .result)
 within : (n : tie.After-next-word) → Within (Line n) (n .next-word .result)
 within n = word-within _ _ _ (n .next-word .ensures) (n .before .before .pre)
 
-next-word-requires : tie.Need-next-word-requires
-next-word-requires c κs = search needs
-
 read-name-requires : tie.Need-read-name-requires
 read-name-requires c κs = within c
-
-plain-requires : tie.Need-plain-requires
-plain-requires c κs = search needs
 
 returns : tie.Need-returns
 returns c =
@@ -65,24 +59,6 @@ by-pairs d =
     let k = n .before .before .args .kind in
     ap (definition k) (at-word (Line n) _ _ (n .next-word .ensures) (legal-some (W n) (good e))) ∙ definition-read k (W n) _ (good e) ∙
     ap (readingTold (defining k (W n))) (sym (d .read-pairs .ensures))
-
-enum-told : tie.Need-enum-told
-enum-told c = search needs
-
-plain-requires-2 : tie.Need-plain-requires-2
-plain-requires-2 c κs = search needs
-
-enum-told-2 : tie.Need-enum-told-2
-enum-told-2 c = search needs
-
-plain-requires-3 : tie.Need-plain-requires-3
-plain-requires-3 c κs = search needs
-
-enum-known-p : tie.Need-enum-known-p
-enum-known-p c = search needs
-
-no-name-requires : tie.Need-no-name-requires
-no-name-requires c κs = search needs
 
 returns-2 : tie.Need-returns-2
 returns-2 c =
@@ -113,17 +89,17 @@ pub defining-spec : {M : Type 1} → statement M
 defining-spec =
     tie.close
     (tie.spec
-    next-word-requires
+    (λ c κs. search needs)
     read-name-requires
-    plain-requires
+    (λ c κs. search needs)
     returns
     read-pairs-requires
-    enum-told
-    plain-requires-2
-    enum-told-2
-    plain-requires-3
-    enum-known-p
-    no-name-requires
+    (λ c. search needs)
+    (λ c κs. search needs)
+    (λ c. search needs)
+    (λ c κs. search needs)
+    (λ c. search needs)
+    (λ c κs. search needs)
     returns-2
     returns-3
     returns-4)

@@ -4,17 +4,11 @@ use Rattle.request.proofs.Says.{says-plain}
 use Rattle.request.proofs.arguments.if_fine.Statement.{statement}
 use Rattle.request.proofs.arguments.if_fine.Tie as tie
 
-plain-requires : tie.Need-plain-requires
-plain-requires c κs = search needs
-
 returns : tie.Need-returns
 returns c = says-plain _ (c .plain .ensures) (rw (c .before .if1 .taken))
-
-plain-requires-2 : tie.Need-plain-requires-2
-plain-requires-2 c κs = search needs
 
 returns-2 : tie.Need-returns-2
 returns-2 c = says-plain Malformed (c .plain2 .ensures) (rw (c .before .if1 .left))
 
 pub if-fine-spec : {M : Type 1} → statement M
-if-fine-spec = tie.close (tie.spec plain-requires returns plain-requires-2 returns-2)
+if-fine-spec = tie.close (tie.spec (λ c κs. search needs) returns (λ c κs. search needs) returns-2)

@@ -34,20 +34,11 @@ there n b e = at-word _ _ _ (n .next-word .ensures) (same-long (W n) (b ∷ []) 
 abbrev level : ℕ → Bool → Reading
 level k fine = cond fine (asksChange (setLevel k)) malformed
 
-next-word-requires : tie.Need-next-word-requires
-next-word-requires c κs = search needs
-
-slice-aggregate-is-word : tie.Need-slice-aggregate-is-word
-slice-aggregate-is-word c = search needs
-
 is-word-requires : tie.Need-is-word-requires
 is-word-requires c κs = within (c .before)
 
 ended-requires : tie.Need-ended-requires
 ended-requires c κs = within (c .before .before .before) .inside
-
-if-fine-requires : tie.Need-if-fine-requires
-if-fine-requires c κs = search needs
 
 returns : tie.Need-returns
 returns c =
@@ -57,9 +48,6 @@ returns c =
     let e : same (W n) (ascii "0") ≡ true = sym (w .is-word .ensures) ∙ d .before .if1 .taken in
     says-as (c .if-fine .ensures) (ap (level 0) (d .ended .ensures) ∙ sym (ap levelWords (there n 48 e) ∙ level-zero (W n) e _))
 
-slice-aggregate-is-word-2 : tie.Need-slice-aggregate-is-word-2
-slice-aggregate-is-word-2 c = search needs
-
 is-word-requires-2 : tie.Need-is-word-requires-2
 is-word-requires-2 c κs = within (c .before .before .before .before)
 
@@ -67,14 +55,8 @@ is-word-requires-2 c κs = within (c .before .before .before .before)
 not-zero : (c : tie.Else1) → same (W (c .before .before .before)) (ascii "0") ≡ false
 not-zero c = sym (c .before .is-word .ensures) ∙ c .if1 .left
 
-slice-aggregate-only-word : tie.Need-slice-aggregate-only-word
-slice-aggregate-only-word c = search needs
-
 only-word-requires : tie.Need-only-word-requires
 only-word-requires c κs = (within (c .before .before .before .before .before .before .before) .inside, omega arith)
-
-if-fine-requires-2 : tie.Need-if-fine-requires-2
-if-fine-requires-2 c κs = search needs
 
 returns-2 : tie.Need-returns-2
 returns-2 c =
@@ -84,9 +66,6 @@ returns-2 c =
     let n = z .before .before .before in
     let e : same (W n) (ascii "1") ≡ true = sym (w .is-word2 .ensures) ∙ d .before .before .if2 .taken in
     says-as (c .if-fine2 .ensures) (ap (level 1) (d .only-word .ensures) ∙ sym (ap levelWords (there n 49 e) ∙ level-one (W n) (not-zero z) e _))
-
-plain-requires : tie.Need-plain-requires
-plain-requires c κs = search needs
 
 returns-3 : tie.Need-returns-3
 returns-3 c =
@@ -101,17 +80,17 @@ pub level-spec : {M : Type 1} → statement M
 level-spec =
     tie.close
     (tie.spec
-    next-word-requires
-    slice-aggregate-is-word
+    (λ c κs. search needs)
+    (λ c. search needs)
     is-word-requires
     ended-requires
-    if-fine-requires
+    (λ c κs. search needs)
     returns
-    slice-aggregate-is-word-2
+    (λ c. search needs)
     is-word-requires-2
-    slice-aggregate-only-word
+    (λ c. search needs)
     only-word-requires
-    if-fine-requires-2
+    (λ c κs. search needs)
     returns-2
-    plain-requires
+    (λ c κs. search needs)
     returns-3)

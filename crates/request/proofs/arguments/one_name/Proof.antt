@@ -17,14 +17,8 @@ use Rattle.request.proofs.Words.{at-word, either-way, legal-some}
 use Rattle.request.proofs.arguments.one_name.Statement.{statement}
 use Rattle.request.proofs.arguments.one_name.Tie as tie
 
-next-word-requires : tie.Need-next-word-requires
-next-word-requires c κs = search needs
-
 read-name-requires : tie.Need-read-name-requires
 read-name-requires c κs = word-within _ _ _ (c .next-word .ensures) (c .before .before .pre)
-
-plain-requires : tie.Need-plain-requires
-plain-requires c κs = search needs
 
 -- the line, the word behind the command, and what is made of a name
 abbrev Line : tie.After-next-word → List ℕ
@@ -50,9 +44,6 @@ returns c =
 ended-requires : tie.Need-ended-requires
 ended-requires c κs = let n = c .before .before .before in word-within _ _ _ (n .next-word .ensures) (n .before .before .pre) .inside
 
-plain-requires-2 : tie.Need-plain-requires-2
-plain-requires-2 c κs = search needs
-
 -- a legal name is there, and the words behind it
 good : (c : tie.Else1) → legalName (W (c .before .before .before)) ≡ true
 good c = sym (legal (c .before)) ∙ not-false _ (c .if1 .left)
@@ -68,12 +59,6 @@ returns-2 c =
     says-plain Malformed (c .plain2 .ensures)
     (sym (ap (oneName (make n)) (there e) ∙ one-more (make n) (W n) _ (sym (d .ended .ensures) ∙ not-true _ (c .before .if2 .taken))))
 
-no-name-requires : tie.Need-no-name-requires
-no-name-requires c κs = search needs
-
-ask-requires : tie.Need-ask-requires
-ask-requires c κs = search needs
-
 returns-3 : tie.Need-returns-3
 returns-3 c =
     let d = c .before .before .before .before in
@@ -88,13 +73,13 @@ pub one-name-spec : {M : Type 1} → statement M
 one-name-spec =
     tie.close
     (tie.spec
-    next-word-requires
+    (λ c κs. search needs)
     read-name-requires
-    plain-requires
+    (λ c κs. search needs)
     returns
     ended-requires
-    plain-requires-2
+    (λ c κs. search needs)
     returns-2
-    no-name-requires
-    ask-requires
+    (λ c κs. search needs)
+    (λ c κs. search needs)
     returns-3)

@@ -19,9 +19,6 @@ W n = wordOf (n .before .before .before .args .line .now) (n .next-word .result)
 abbrev Text : tie.After-next-word → List ℕ
 Text n = n .before .before .before .args .text .now
 
-next-word-requires : tie.Need-next-word-requires
-next-word-requires c κs = search needs
-
 is-word-requires : tie.Need-is-word-requires
 is-word-requires c κs = word-within _ _ _ (c .next-word .ensures) (c .before .before .before .pre .0)
 
@@ -44,4 +41,4 @@ returns-2 c =
 
 pub only-word-spec : {M : Type 1} → statement M
 only-word-spec =
-    tie.close (tie.spec next-word-requires is-word-requires returns ended-requires returns-2)
+    tie.close (tie.spec (λ c κs. search needs) is-word-requires returns ended-requires returns-2)

@@ -6,21 +6,12 @@ use Rattle.request.proofs.Says.{says-as, says-plain}
 use Rattle.request.proofs.arguments.resultants.Statement.{statement}
 use Rattle.request.proofs.arguments.resultants.Tie as tie
 
-ended-requires : tie.Need-ended-requires
-ended-requires c κs = search needs
-
-plain-requires : tie.Need-plain-requires
-plain-requires c κs = search needs
-
 returns : tie.Need-returns
 returns c = says-plain ListResultants (c .plain .ensures) (sym (every-resultant _ (sym (c .before .before .ended .ensures) ∙ c .before .if1 .taken)))
-
-one-name-requires : tie.Need-one-name-requires
-one-name-requires c κs = search needs
 
 returns-2 : tie.Need-returns-2
 returns-2 c = says-as (c .one-name .ensures) (sym (one-resultant _ (sym (c .before .before .ended .ensures) ∙ c .before .if1 .left)))
 
 pub resultants-spec : {M : Type 1} → statement M
 resultants-spec =
-    tie.close (tie.spec ended-requires plain-requires returns one-name-requires returns-2)
+    tie.close (tie.spec (λ c κs. search needs) (λ c κs. search needs) returns (λ c κs. search needs) returns-2)

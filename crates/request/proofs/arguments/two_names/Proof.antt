@@ -31,14 +31,8 @@ A n = wordOf (Line n) (n .next-word .result)
 within : (n : tie.After-next-word) → Within (Line n) (n .next-word .result)
 within n = word-within _ _ _ (n .next-word .ensures) (n .before .before .pre)
 
-next-word-requires : tie.Need-next-word-requires
-next-word-requires c κs = search needs
-
 read-name-requires : tie.Need-read-name-requires
 read-name-requires c κs = within c
-
-plain-requires : tie.Need-plain-requires
-plain-requires c κs = search needs
 
 returns : tie.Need-returns
 returns c =
@@ -73,9 +67,6 @@ within-2 m = word-within _ _ _ (m .next-word2 .ensures) (within (Before (m .befo
 read-name-requires-2 : tie.Need-read-name-requires-2
 read-name-requires-2 c κs = within-2 c
 
-plain-requires-2 : tie.Need-plain-requires-2
-plain-requires-2 c κs = search needs
-
 returns-2 : tie.Need-returns-2
 returns-2 c =
     let r = c .before .before .before in
@@ -103,9 +94,6 @@ there-2 f =
 ended-requires : tie.Need-ended-requires
 ended-requires c κs = omega (arith, within-2 (c .before .before .before) .inside)
 
-plain-requires-3 : tie.Need-plain-requires-3
-plain-requires-3 c κs = search needs
-
 returns-3 : tie.Need-returns-3
 returns-3 c =
     let d = c .before .before in
@@ -114,9 +102,6 @@ returns-3 c =
     let n = Before (m .before) in
     says-plain Malformed (c .plain3 .ensures)
     (sym (ap (twoNames (make n)) (there-2 f) ∙ two-more (make n) (A n) (W m) _ (sym (d .ended .ensures) ∙ not-true _ (c .before .if3 .taken))))
-
-ask-requires : tie.Need-ask-requires
-ask-requires c κs = search needs
 
 returns-4 : tie.Need-returns-4
 returns-4 c =
@@ -138,16 +123,16 @@ pub two-names-spec : {M : Type 1} → statement M
 two-names-spec =
     tie.close
     (tie.spec
-    next-word-requires
+    (λ c κs. search needs)
     read-name-requires
-    plain-requires
+    (λ c κs. search needs)
     returns
     next-word-requires-2
     read-name-requires-2
-    plain-requires-2
+    (λ c κs. search needs)
     returns-2
     ended-requires
-    plain-requires-3
+    (λ c κs. search needs)
     returns-3
-    ask-requires
+    (λ c κs. search needs)
     returns-4)

@@ -17,17 +17,8 @@ W s = wordOf (s .args .line .now) (s .args .w)
 long : (s : tie.Start) → length (W s) ≡ s .args .w .end - s .args .w .start
 long s = length-word (s .args .line .now) (s .args .w .start) (s .args .w .end - s .args .w .start) (omega (arith, s .pre .ordered, s .pre .inside))
 
-sub-n : tie.Need-sub-n
-sub-n c = search needs
-
-query-requires : tie.Need-query-requires
-query-requires c κs = search needs
-
 returns : tie.Need-returns
 returns c args = c .query .ensures args ∙ sym (by-four _ args (long (c .before .before .before .before) ∙ c .before .if1 .taken))
-
-definition-requires : tie.Need-definition-requires
-definition-requires c κs = search needs
 
 returns-2 : tie.Need-returns-2
 returns-2 c args = c .definition .ensures args ∙ sym (by-three _ args (long (c .before .before .before .before .before) ∙ c .before .if2 .taken))
@@ -39,4 +30,4 @@ returns-3 c args =
 
 pub form-of-spec : {M : Type 1} → statement M
 form-of-spec =
-    tie.close (tie.spec sub-n query-requires returns definition-requires returns-2 returns-3)
+    tie.close (tie.spec (λ c. search needs) (λ c κs. search needs) returns (λ c κs. search needs) returns-2 returns-3)

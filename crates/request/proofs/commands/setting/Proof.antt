@@ -38,41 +38,17 @@ left4 : (c : tie.Else4) (args : List (List ℕ)) → readBy settings (W4 c) args
 unfolding settings
 left4 c args = left3 (c .before .before .before) args ∙ miss _ _ _ args (sym (c .before .is-word4 .ensures) ∙ c .if4 .left)
 
-slice-aggregate-is-word : tie.Need-slice-aggregate-is-word
-slice-aggregate-is-word c = search needs
-
-is-word-requires : tie.Need-is-word-requires
-is-word-requires c κs = search needs
-
 returns : tie.Need-returns
 unfolding settings
 returns c args = sym (hit _ _ _ args (sym (c .before .is-word .ensures) ∙ c .if1 .taken))
-
-slice-aggregate-is-word-2 : tie.Need-slice-aggregate-is-word-2
-slice-aggregate-is-word-2 c = search needs
-
-is-word-requires-2 : tie.Need-is-word-requires-2
-is-word-requires-2 c κs = search needs
 
 returns-2 : tie.Need-returns-2
 unfolding settings
 returns-2 c args = sym (left1 (c .before .before .before) args ∙ hit _ _ _ args (sym (c .before .is-word2 .ensures) ∙ c .if2 .taken))
 
-slice-aggregate-is-word-3 : tie.Need-slice-aggregate-is-word-3
-slice-aggregate-is-word-3 c = search needs
-
-is-word-requires-3 : tie.Need-is-word-requires-3
-is-word-requires-3 c κs = search needs
-
 returns-3 : tie.Need-returns-3
 unfolding settings
 returns-3 c args = sym (left2 (c .before .before .before) args ∙ hit _ _ _ args (sym (c .before .is-word3 .ensures) ∙ c .if3 .taken))
-
-slice-aggregate-is-word-4 : tie.Need-slice-aggregate-is-word-4
-slice-aggregate-is-word-4 c = search needs
-
-is-word-requires-4 : tie.Need-is-word-requires-4
-is-word-requires-4 c κs = search needs
 
 returns-4 : tie.Need-returns-4
 unfolding settings
@@ -86,16 +62,16 @@ pub setting-spec : {M : Type 1} → statement M
 setting-spec =
     tie.close
     (tie.spec
-    slice-aggregate-is-word
-    is-word-requires
+    (λ c. search needs)
+    (λ c κs. search needs)
     returns
-    slice-aggregate-is-word-2
-    is-word-requires-2
+    (λ c. search needs)
+    (λ c κs. search needs)
     returns-2
-    slice-aggregate-is-word-3
-    is-word-requires-3
+    (λ c. search needs)
+    (λ c κs. search needs)
     returns-3
-    slice-aggregate-is-word-4
-    is-word-requires-4
+    (λ c. search needs)
+    (λ c κs. search needs)
     returns-4
     returns-5)

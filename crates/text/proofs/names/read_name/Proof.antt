@@ -40,29 +40,14 @@ long s = length-word (s .args .line .now) (s .args .w .start) (s .args .w .end -
 sub-n : tie.Need-sub-n Inv-loop μ-loop
 sub-n c = c .before .before .pre .ordered
 
-illegal-requires : tie.Need-illegal-requires Inv-loop μ-loop
-illegal-requires c κs = search needs
-
 returns : tie.Need-returns Inv-loop μ-loop
 returns c = let s = c .before .before .before .before in c .illegal .ensures ∙ sym (read-none (Word s) (legal-none (Word s) (long s ∙ c .before .if1 .taken)))
-
-illegal-requires-2 : tie.Need-illegal-requires-2 Inv-loop μ-loop
-illegal-requires-2 c κs = search needs
 
 returns-2 : tie.Need-returns-2 Inv-loop μ-loop
 returns-2 c = let s = c .before .before .before .before .before in c .illegal2 .ensures ∙ sym (read-none (Word s) (legal-long (Word s) (omega (arith, long s, c .before .if2 .taken))))
 
 shared-slice-read-upper : tie.Need-shared-slice-read-upper Inv-loop μ-loop
 shared-slice-read-upper c = let s = c .before .before .before .before .before in omega (arith, inside s, c .before .before .if1 .left)
-
-upper-requires : tie.Need-upper-requires Inv-loop μ-loop
-upper-requires c κs = search needs
-
-between-requires : tie.Need-between-requires Inv-loop μ-loop
-between-requires c κs = search needs
-
-illegal-requires-3 : tie.Need-illegal-requires-3 Inv-loop μ-loop
-illegal-requires-3 c κs = search needs
 
 -- the first byte
 first : (c : tie.After-between Inv-loop μ-loop) → capital (getD (Word (c .before .before .before .before .before .before .before)) 0 0) ≡ c .between .result
@@ -98,15 +83,6 @@ add-at c = let v = c .before .loop .inv in omega (arith, v .2)
 
 shared-slice-read-upper-2 : tie.Need-shared-slice-read-upper-2 Inv-loop μ-loop
 shared-slice-read-upper-2 c = let v = c .before .before .loop .inv in omega (arith, v .2, c .before .loop-test .taken)
-
-upper-requires-2 : tie.Need-upper-requires-2 Inv-loop μ-loop
-upper-requires-2 c κs = search needs
-
-name-byte-requires : tie.Need-name-byte-requires Inv-loop μ-loop
-name-byte-requires c κs = search needs
-
-illegal-requires-4 : tie.Need-illegal-requires-4 Inv-loop μ-loop
-illegal-requires-4 c κs = search needs
 
 -- a byte of the word
 abbrev StartOf : tie.At-loop Inv-loop μ-loop → tie.Start Inv-loop μ-loop
@@ -183,21 +159,21 @@ read-name-spec =
     Inv-loop
     μ-loop
     sub-n
-    illegal-requires
+    (λ c κs. search needs)
     returns
-    illegal-requires-2
+    (λ c κs. search needs)
     returns-2
     shared-slice-read-upper
-    upper-requires
-    between-requires
-    illegal-requires-3
+    (λ c κs. search needs)
+    (λ c κs. search needs)
+    (λ c κs. search needs)
     returns-3
     loop-holds
     add-at
     shared-slice-read-upper-2
-    upper-requires-2
-    name-byte-requires
-    illegal-requires-4
+    (λ c κs. search needs)
+    (λ c κs. search needs)
+    (λ c κs. search needs)
     returns-4
     array-write-bytes
     add-i

@@ -7,17 +7,11 @@ use Rattle.text.proofs.NumberRange.{digit-is, digit-weight}
 use Rattle.text.proofs.numbers.part_digit.Statement.{statement}
 use Rattle.text.proofs.numbers.part_digit.Tie as tie
 
-between-requires : tie.Need-between-requires
-between-requires c κs = search needs
-
 told : (c : tie.Then1) → digit (c .before .before .args .b) ≡ true
 told c = sym (c .before .between .ensures) ∙ c .if1 .taken
 
 sub-wide : tie.Need-sub-wide
 sub-wide c = digit-is _ (told c) .low
-
-wide-requires : tie.Need-wide-requires
-wide-requires c κs = search needs
 
 mul-t8 : tie.Need-mul-t8
 mul-t8 c = let s = c .before .before .before in rw (c .wide .ensures) (omega (arith, digit-weight (s .args .b) (s .args .w) (told (c .before)), s .pre))
@@ -32,4 +26,4 @@ returns-2 : tie.Need-returns-2
 returns-2 c = rw (sym (c .before .between .ensures) ∙ c .if1 .left)
 
 pub part-digit-spec : {M : Type 1} → statement M
-part-digit-spec = tie.close (tie.spec between-requires sub-wide wide-requires mul-t8 add-t9 returns returns-2)
+part-digit-spec = tie.close (tie.spec (λ c κs. search needs) sub-wide (λ c κs. search needs) mul-t8 add-t9 returns returns-2)

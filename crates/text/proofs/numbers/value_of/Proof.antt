@@ -10,32 +10,14 @@ use borrow.Author.Needs.{needs}
 use Rattle.text.proofs.numbers.value_of.Statement.{statement}
 use Rattle.text.proofs.numbers.value_of.Tie as tie
 
-enum-told : tie.Need-enum-told
-enum-told c = search needs
-
-enum-told-2 : tie.Need-enum-told-2
-enum-told-2 c = search needs
-
-enum-known-n : tie.Need-enum-known-n
-enum-known-n c = search needs
-
 mul-signed : tie.Need-mul-signed
 mul-signed c = let g = subst Good (c .before .n .given .1) (c .before .before .before .pre) in omega (arith, g .1, ten-monotone (c .before .n .given .0 .1 .0) wholeDigits (g .0))
 
 signed-requires : tie.Need-signed-requires
 signed-requires c κs = let g = subst Good (c .before .n .given .1) (c .before .before .before .pre) in omega (arith, g .1, ten-monotone (c .before .n .given .0 .1 .0) wholeDigits (g .0))
 
-enum-told-3 : tie.Need-enum-told-3
-enum-told-3 c = search needs
-
-enum-known-n-2 : tie.Need-enum-known-n-2
-enum-known-n-2 c = search needs
-
 signed-requires-2 : tie.Need-signed-requires-2
 signed-requires-2 c κs = let g = subst Good (c .before .n2 .given .1) (c .before .before .before .pre) in omega arith
-
-enum-told-4 : tie.Need-enum-told-4
-enum-told-4 c = search needs
 
 returns : tie.Need-returns
 unfolding orNumber
@@ -65,15 +47,15 @@ pub value-of-spec : {M : Type 1} → statement M
 value-of-spec =
     tie.close
     (tie.spec
-    enum-told
-    enum-told-2
-    enum-known-n
+    (λ c. search needs)
+    (λ c. search needs)
+    (λ c. search needs)
     mul-signed
     signed-requires
-    enum-told-3
-    enum-known-n-2
+    (λ c. search needs)
+    (λ c. search needs)
     signed-requires-2
-    enum-told-4
+    (λ c. search needs)
     returns
     returns-2
     returns-3

@@ -16,23 +16,14 @@ mul-t6 c = omega (arith, ten-monotone (c .before .args .k) wholeDigits (c .befor
 returns : tie.Need-returns
 returns c = rw (eq-eqb _ _ (c .if1 .taken))
 
-between-requires : tie.Need-between-requires
-between-requires c κs = search needs
-
 told : (c : tie.Then2) → digit (c .before .before .before .args .b) ≡ true
 told c = sym (c .before .between .ensures) ∙ c .if2 .taken
-
-add-t9 : tie.Need-add-t9
-add-t9 c = search needs
 
 mul-t10 : tie.Need-mul-t10
 mul-t10 c = let s = c .before .before .before .before in omega (arith, ten-monotone (s .args .k) wholeDigits (s .pre .0), s .pre .1)
 
 sub-wide : tie.Need-sub-wide
 sub-wide c = digit-is _ (told (c .before)) .low
-
-wide-requires : tie.Need-wide-requires
-wide-requires c κs = search needs
 
 add-t13 : tie.Need-add-t13
 add-t13 c =
@@ -57,11 +48,11 @@ whole-digit-spec =
     (tie.spec
     mul-t6
     returns
-    between-requires
-    add-t9
+    (λ c κs. search needs)
+    (λ c. search needs)
     mul-t10
     sub-wide
-    wide-requires
+    (λ c κs. search needs)
     add-t13
     returns-2
     returns-3

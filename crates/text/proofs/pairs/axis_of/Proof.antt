@@ -46,56 +46,20 @@ W6 c = W5 (c .before .before .before)
 left6 : (c : tie.Else6) → axis (W6 c) ≡ suc (suc (suc (suc (suc (suc (placeIn (drop 6 axisWords) (W6 c)))))))
 left6 c = left5 (c .before .before .before) ∙ ap (λ (n : ℕ). suc (suc (suc (suc (suc n))))) (place-miss _ _ _ (sym (c .before .is-word6 .ensures) ∙ c .if6 .left))
 
-slice-aggregate-is-word : tie.Need-slice-aggregate-is-word
-slice-aggregate-is-word c = search needs
-
-is-word-requires : tie.Need-is-word-requires
-is-word-requires c κs = search needs
-
 returns : tie.Need-returns
 returns c = sym (axis-place _ ∙ place-hit _ _ _ (sym (c .before .is-word .ensures) ∙ c .if1 .taken))
-
-slice-aggregate-is-word-2 : tie.Need-slice-aggregate-is-word-2
-slice-aggregate-is-word-2 c = search needs
-
-is-word-requires-2 : tie.Need-is-word-requires-2
-is-word-requires-2 c κs = search needs
 
 returns-2 : tie.Need-returns-2
 returns-2 c = sym (left1 (c .before .before .before) ∙ ap suc (place-hit _ _ _ (sym (c .before .is-word2 .ensures) ∙ c .if2 .taken)))
 
-slice-aggregate-is-word-3 : tie.Need-slice-aggregate-is-word-3
-slice-aggregate-is-word-3 c = search needs
-
-is-word-requires-3 : tie.Need-is-word-requires-3
-is-word-requires-3 c κs = search needs
-
 returns-3 : tie.Need-returns-3
 returns-3 c = sym (left2 (c .before .before .before) ∙ ap (λ (n : ℕ). suc (suc n)) (place-hit _ _ _ (sym (c .before .is-word3 .ensures) ∙ c .if3 .taken)))
-
-slice-aggregate-is-word-4 : tie.Need-slice-aggregate-is-word-4
-slice-aggregate-is-word-4 c = search needs
-
-is-word-requires-4 : tie.Need-is-word-requires-4
-is-word-requires-4 c κs = search needs
 
 returns-4 : tie.Need-returns-4
 returns-4 c = sym (left3 (c .before .before .before) ∙ ap (λ (n : ℕ). suc (suc (suc n))) (place-hit _ _ _ (sym (c .before .is-word4 .ensures) ∙ c .if4 .taken)))
 
-slice-aggregate-is-word-5 : tie.Need-slice-aggregate-is-word-5
-slice-aggregate-is-word-5 c = search needs
-
-is-word-requires-5 : tie.Need-is-word-requires-5
-is-word-requires-5 c κs = search needs
-
 returns-5 : tie.Need-returns-5
 returns-5 c = sym (left4 (c .before .before .before) ∙ ap (λ (n : ℕ). suc (suc (suc (suc n)))) (place-hit _ _ _ (sym (c .before .is-word5 .ensures) ∙ c .if5 .taken)))
-
-slice-aggregate-is-word-6 : tie.Need-slice-aggregate-is-word-6
-slice-aggregate-is-word-6 c = search needs
-
-is-word-requires-6 : tie.Need-is-word-requires-6
-is-word-requires-6 c κs = search needs
 
 returns-6 : tie.Need-returns-6
 returns-6 c = sym (left5 (c .before .before .before) ∙ ap (λ (n : ℕ). suc (suc (suc (suc (suc n))))) (place-hit _ _ _ (sym (c .before .is-word6 .ensures) ∙ c .if6 .taken)))
@@ -108,22 +72,22 @@ pub axis-of-spec : {M : Type 1} → statement M
 axis-of-spec =
     tie.close
     (tie.spec
-    slice-aggregate-is-word
-    is-word-requires
+    (λ c. search needs)
+    (λ c κs. search needs)
     returns
-    slice-aggregate-is-word-2
-    is-word-requires-2
+    (λ c. search needs)
+    (λ c κs. search needs)
     returns-2
-    slice-aggregate-is-word-3
-    is-word-requires-3
+    (λ c. search needs)
+    (λ c κs. search needs)
     returns-3
-    slice-aggregate-is-word-4
-    is-word-requires-4
+    (λ c. search needs)
+    (λ c κs. search needs)
     returns-4
-    slice-aggregate-is-word-5
-    is-word-requires-5
+    (λ c. search needs)
+    (λ c κs. search needs)
     returns-5
-    slice-aggregate-is-word-6
-    is-word-requires-6
+    (λ c. search needs)
+    (λ c κs. search needs)
     returns-6
     returns-7)

@@ -5,27 +5,6 @@ use Rattle.text.proofs.PairLaws.{ranged-six}
 use Rattle.text.proofs.pairs.finished.Statement.{statement}
 use Rattle.text.proofs.pairs.finished.Tie as tie
 
-array-copy-out-kept : tie.Need-array-copy-out-kept
-array-copy-out-kept c = search needs
-
-array-copy-out-kept-2 : tie.Need-array-copy-out-kept-2
-array-copy-out-kept-2 c = search needs
-
-array-copy-out-kept-3 : tie.Need-array-copy-out-kept-3
-array-copy-out-kept-3 c = search needs
-
-array-copy-out-kept-4 : tie.Need-array-copy-out-kept-4
-array-copy-out-kept-4 c = search needs
-
-array-copy-out-kept-5 : tie.Need-array-copy-out-kept-5
-array-copy-out-kept-5 c = search needs
-
-array-copy-out-kept-6 : tie.Need-array-copy-out-kept-6
-array-copy-out-kept-6 c = search needs
-
-kept-requires : tie.Need-kept-requires
-kept-requires c κs = search needs
-
 returns : tie.Need-returns
 returns c =
     let w = c .before in
@@ -48,11 +27,11 @@ pub finished-spec : {M : Type 1} → statement M
 finished-spec =
     tie.close
     (tie.spec
-    array-copy-out-kept
-    array-copy-out-kept-2
-    array-copy-out-kept-3
-    array-copy-out-kept-4
-    array-copy-out-kept-5
-    array-copy-out-kept-6
-    kept-requires
+    (λ c. search needs)
+    (λ c. search needs)
+    (λ c. search needs)
+    (λ c. search needs)
+    (λ c. search needs)
+    (λ c. search needs)
+    (λ c κs. search needs)
     returns)

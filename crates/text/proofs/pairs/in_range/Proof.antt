@@ -8,24 +8,6 @@ use Rattle.model.specs.Words.{offset?, angle?}
 use Rattle.text.proofs.pairs.in_range.Statement.{statement}
 use Rattle.text.proofs.pairs.in_range.Tie as tie
 
-offset-fine-requires : tie.Need-offset-fine-requires
-offset-fine-requires c κs = search needs
-
-offset-fine-requires-2 : tie.Need-offset-fine-requires-2
-offset-fine-requires-2 c κs = search needs
-
-offset-fine-requires-3 : tie.Need-offset-fine-requires-3
-offset-fine-requires-3 c κs = search needs
-
-angle-fine-requires : tie.Need-angle-fine-requires
-angle-fine-requires c κs = search needs
-
-angle-fine-requires-2 : tie.Need-angle-fine-requires-2
-angle-fine-requires-2 c κs = search needs
-
-angle-fine-requires-3 : tie.Need-angle-fine-requires-3
-angle-fine-requires-3 c κs = search needs
-
 -- what each test said of its value
 x-fine : (c : tie.Else1) → offset? (c .before .before .args .x) ≡ true
 x-fine c = ap offset? (sym (toZ-ofZ (c .before .before .fits .x))) ∙ sym (c .before .offset-fine .ensures) ∙ not-false _ (c .if1 .left)
@@ -98,15 +80,15 @@ pub in-range-spec : {M : Type 1} → statement M
 in-range-spec =
     tie.close
     (tie.spec
-    offset-fine-requires
+    (λ c κs. search needs)
     returns
-    offset-fine-requires-2
+    (λ c κs. search needs)
     returns-2
-    offset-fine-requires-3
+    (λ c κs. search needs)
     returns-3
-    angle-fine-requires
+    (λ c κs. search needs)
     returns-4
-    angle-fine-requires-2
+    (λ c κs. search needs)
     returns-5
-    angle-fine-requires-3
+    (λ c κs. search needs)
     returns-6)

@@ -10,9 +10,6 @@ use Rattle.text.proofs.PairLaws.{angles-listed}
 use Rattle.text.proofs.pairs.kept.Statement.{statement}
 use Rattle.text.proofs.pairs.kept.Tie as tie
 
-in-range-requires : tie.Need-in-range-requires
-in-range-requires c κs = search needs
-
 abbrev Six : tie.Start → Values
 Six s = six (s .args .x) (s .args .y) (s .args .z) (s .args .u) (s .args .v) (s .args .w)
 
@@ -62,7 +59,7 @@ pub kept-spec : {M : Type 1} → statement M
 kept-spec =
     tie.close
     (tie.spec
-    in-range-requires
+    (λ c κs. search needs)
     returns
     quarter-turns-requires
     quarter-turns-requires-2

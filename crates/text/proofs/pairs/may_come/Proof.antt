@@ -8,9 +8,6 @@ use Rattle.text.proofs.PairLaws.{came-there}
 use Rattle.text.proofs.pairs.may_come.Statement.{statement}
 use Rattle.text.proofs.pairs.may_come.Tie as tie
 
-first-axis-requires : tie.Need-first-axis-requires
-first-axis-requires c κs = search needs
-
 -- the first axis that the command has, as it was found
 below : (c : tie.Then1) → c .before .before .args .i < firstAxis (c .before .before .args .kind)
 below c = omega (arith, c .if1 .taken, c .before .first-axis .ensures)
@@ -26,9 +23,6 @@ returns-2 : tie.Need-returns-2
 unfolding mayCome
 returns-2 c values h = rw (le-leb _ _ (from (c .before)), lt-leb (c .before .before .before .args .i) 5 (omega arith))
 
-array-read-result : tie.Need-array-read-result
-array-read-result c = search needs
-
 returns-3 : tie.Need-returns-3
 unfolding mayCome
 returns-3 c values h =
@@ -37,4 +31,4 @@ returns-3 c values h =
 
 pub may-come-spec : {M : Type 1} → statement M
 may-come-spec =
-    tie.close (tie.spec first-axis-requires returns returns-2 array-read-result returns-3)
+    tie.close (tie.spec (λ c κs. search needs) returns returns-2 (λ c. search needs) returns-3)

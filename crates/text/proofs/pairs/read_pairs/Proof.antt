@@ -89,12 +89,6 @@ pairs-holds : tie.Need-pairs-holds Inv-loop μ-loop Inv-pairs μ-pairs
 unfolding valuesOf
 pairs-holds c = (c .before .pre, refl, refl, (λ i e. none-yet 6 i), refl)
 
-next-word-requires : tie.Need-next-word-requires Inv-loop μ-loop Inv-pairs μ-pairs
-next-word-requires c κs = search needs
-
-finished-requires : tie.Need-finished-requires Inv-loop μ-loop Inv-pairs μ-pairs
-finished-requires c κs = search needs
-
 returns : tie.Need-returns Inv-loop μ-loop Inv-pairs μ-pairs
 unfolding answered
 returns c =
@@ -109,9 +103,6 @@ within w = word-within (Line (w .before)) (w .before .pairs .at) (w .next-word .
 
 axis-of-requires : tie.Need-axis-of-requires Inv-loop μ-loop Inv-pairs μ-pairs
 axis-of-requires c κs = within (c .before .before)
-
-may-come-requires : tie.Need-may-come-requires Inv-loop μ-loop Inv-pairs μ-pairs
-may-come-requires c κs = search needs
 
 -- the test of the axis is the definition's
 may : (a : AtAxis) → let p = word a .before in mayCome (KindOf p) (axis (wordOf (Line p) (word a .next-word .result))) (Read p) ≡ a .may-come .result
@@ -145,9 +136,6 @@ shared-slice-read-b c = c .before .loop-test .taken
 
 step-requires : tie.Need-step-requires Inv-loop μ-loop Inv-pairs μ-pairs
 step-requires c κs = c .before .before .before .loop .inv .2
-
-is-wrong-requires : tie.Need-is-wrong-requires Inv-loop μ-loop Inv-pairs μ-pairs
-is-wrong-requires c κs = search needs
 
 -- a byte of the number, after its tests
 abbrev AtByte : Type 0
@@ -207,12 +195,6 @@ number-is c =
 
 value-of-requires : tie.Need-value-of-requires Inv-loop μ-loop Inv-pairs μ-pairs
 value-of-requires c κs = c .before .loop .inv .2
-
-enum-known-v : tie.Need-enum-known-v Inv-loop μ-loop Inv-pairs μ-pairs
-enum-known-v c = search needs
-
-enum-told : tie.Need-enum-told Inv-loop μ-loop Inv-pairs μ-pairs
-enum-told c = search needs
 
 -- ---- a pair is read: the value, and the place behind it
 
@@ -342,22 +324,22 @@ read-pairs-spec =
     Inv-pairs
     μ-pairs
     pairs-holds
-    next-word-requires
-    finished-requires
+    (λ c κs. search needs)
+    (λ c κs. search needs)
     returns
     axis-of-requires
-    may-come-requires
+    (λ c κs. search needs)
     past-requires
     loop-holds
     shared-slice-read-b
     step-requires
-    is-wrong-requires
+    (λ c κs. search needs)
     add-at
     loop-less
     loop-again
     value-of-requires
-    enum-known-v
-    enum-told
+    (λ c. search needs)
+    (λ c. search needs)
     mul-values
     array-set-from-values
     array-write-came

@@ -7,9 +7,6 @@ use Rattle.model.specs.Words.{angle?}
 use Rattle.text.proofs.values.angle_fine.Statement.{statement}
 use Rattle.text.proofs.values.angle_fine.Tie as tie
 
-magnitude-requires : tie.Need-magnitude-requires
-magnitude-requires c κs = search needs
-
 is : (c : tie.After-magnitude) → c .magnitude .result ≡ natAbs (c .before .args .z)
 is c = c .magnitude .ensures ∙ ap natAbs (toZ-ofZ (c .before .fits .z))
 
@@ -22,4 +19,4 @@ unfolding angle?
 returns-2 c = rw (← is (c .before), ne-eqb _ _ (c .if1 .left))
 
 pub angle-fine-spec : {M : Type 1} → statement M
-angle-fine-spec = tie.close (tie.spec magnitude-requires returns returns-2)
+angle-fine-spec = tie.close (tie.spec (λ c κs. search needs) returns returns-2)

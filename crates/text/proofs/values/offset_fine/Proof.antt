@@ -6,9 +6,6 @@ use Rattle.model.specs.Words.{offset?}
 use Rattle.text.proofs.values.offset_fine.Statement.{statement}
 use Rattle.text.proofs.values.offset_fine.Tie as tie
 
-magnitude-requires : tie.Need-magnitude-requires
-magnitude-requires c κs = search needs
-
 is : (c : tie.After-magnitude) → c .magnitude .result ≡ natAbs (c .before .args .z)
 is c = c .magnitude .ensures ∙ ap natAbs (toZ-ofZ (c .before .fits .z))
 
@@ -17,4 +14,4 @@ unfolding offset?
 returns c = rw (is c)
 
 pub offset-fine-spec : {M : Type 1} → statement M
-offset-fine-spec = tie.close (tie.spec magnitude-requires returns)
+offset-fine-spec = tie.close (tie.spec (λ c κs. search needs) returns)

@@ -9,9 +9,6 @@ use Rattle.text.proofs.ValueLaws.{angle-small}
 use Rattle.text.proofs.values.quarter_turns.Statement.{statement}
 use Rattle.text.proofs.values.quarter_turns.Tie as tie
 
-magnitude-requires : tie.Need-magnitude-requires
-magnitude-requires c κs = search needs
-
 is : (c : tie.After-magnitude) → c .magnitude .result ≡ natAbs (c .before .args .z)
 is c = c .magnitude .ensures ∙ ap natAbs (toZ-ofZ (c .before .fits .z))
 
@@ -34,4 +31,4 @@ returns-2 c =
     rw (is (c .before), sign-over (s .args .z) (rw (toZ-ofZ (s .fits .z)) at (c .if1 .left)))
 
 pub quarter-turns-spec : {M : Type 1} → statement M
-quarter-turns-spec = tie.close (tie.spec magnitude-requires cast-q sub-result returns returns-2)
+quarter-turns-spec = tie.close (tie.spec (λ c κs. search needs) cast-q sub-result returns returns-2)

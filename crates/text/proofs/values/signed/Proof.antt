@@ -8,9 +8,6 @@ use mir.Facts.{toZ-ofZ, toZ-pos}
 use Rattle.text.proofs.values.signed.Statement.{statement}
 use Rattle.text.proofs.values.signed.Tie as tie
 
-cast-n : tie.Need-cast-n
-cast-n c = search needs
-
 -- the magnitude is read as it is
 small : (c : tie.Start) → toZ w64 (c .args .v) ≡ pos (c .args .v)
 small c = toZ-pos w64 (c .pre)
@@ -27,4 +24,4 @@ returns-2 : tie.Need-returns-2
 returns-2 c = rw (c .if1 .left) (small (c .before))
 
 pub signed-spec : {M : Type 1} → statement M
-signed-spec = tie.close (tie.spec cast-n negated-requires returns returns-2)
+signed-spec = tie.close (tie.spec (λ c. search needs) negated-requires returns returns-2)

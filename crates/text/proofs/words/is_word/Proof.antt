@@ -33,18 +33,6 @@ loop-holds c =
     let p = c .before .before .before .before .pre in
     (omega arith, c .if1 .left, omega (arith, p .ordered, p .inside), refl)
 
-add-at : tie.Need-add-at Inv-loop μ-loop
-add-at c = omega arith
-
-shared-slice-read-upper : tie.Need-shared-slice-read-upper Inv-loop μ-loop
-shared-slice-read-upper c = omega arith
-
-upper-requires : tie.Need-upper-requires Inv-loop μ-loop
-upper-requires c κs = search needs
-
-shared-slice-read-if2 : tie.Need-shared-slice-read-if2 Inv-loop μ-loop
-shared-slice-read-if2 c = omega arith
-
 abbrev Word : tie.At-loop Inv-loop μ-loop → List ℕ
 Word k = let a = k .before .before .before .before .before .args in wordAt (a .line .now) (a .w .start) (a .w .end - a .w .start)
 
@@ -67,12 +55,6 @@ returns-2 c =
     let h = u .before .before .loop-test .taken in
     let g = k .loop .inv .1 in
     sym (k .loop .inv .3 ∙ same-stop (Word k) _ (k .loop .i) (omega (arith, long k)) (omega arith) (λ e. c .if2 .taken (sym (raised u) ∙ e)))
-
-add-i : tie.Need-add-i Inv-loop μ-loop
-add-i c = omega arith
-
-loop-less : tie.Need-loop-less Inv-loop μ-loop
-loop-less c = omega arith
 
 loop-again : tie.Need-loop-again Inv-loop μ-loop
 loop-again c =
@@ -102,12 +84,12 @@ is-word-spec =
     sub-n
     returns
     loop-holds
-    add-at
-    shared-slice-read-upper
-    upper-requires
-    shared-slice-read-if2
+    (λ c. omega arith)
+    (λ c. omega arith)
+    (λ c κs. search needs)
+    (λ c. omega arith)
     returns-2
-    add-i
-    loop-less
+    (λ c. omega arith)
+    (λ c. omega arith)
     loop-again
     returns-3)

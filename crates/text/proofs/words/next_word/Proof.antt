@@ -6,9 +6,6 @@ use Rattle.text.proofs.WordLaws.{lead-le}
 use Rattle.text.proofs.words.next_word.Statement.{statement}
 use Rattle.text.proofs.words.next_word.Tie as tie
 
-past-requires : tie.Need-past-requires
-past-requires c κs = search needs
-
 past-requires-2 : tie.Need-past-requires-2
 past-requires-2 c κs =
     let a = c .before .before .args in
@@ -18,4 +15,4 @@ returns : tie.Need-returns
 returns c = rw (c .past2 .ensures, c .before .past .ensures)
 
 pub next-word-spec : {M : Type 1} → statement M
-next-word-spec = tie.close (tie.spec past-requires past-requires-2 returns)
+next-word-spec = tie.close (tie.spec (λ c κs. search needs) past-requires-2 returns)

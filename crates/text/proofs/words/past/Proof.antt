@@ -14,20 +14,8 @@ Inv-loop line at spaces i₀ i = (i ≤ length line) × (at + lead spaces (drop 
 abbrev μ-loop : tie.MeasureT-loop
 μ-loop line at spaces i₀ i = length line - i
 
-loop-holds : tie.Need-loop-holds Inv-loop μ-loop
-loop-holds c = omega arith
-
-shared-slice-read-if1 : tie.Need-shared-slice-read-if1 Inv-loop μ-loop
-shared-slice-read-if1 c = omega arith
-
 returns : tie.Need-returns Inv-loop μ-loop
 returns c = let k = c .before .before .before in omega (arith, lead-stop (k .before .args .spaces) (k .before .args .line .now) (k .loop .i) (c .before .before .loop-test .taken) (not-true _ (c .if1 .taken)))
-
-add-i : tie.Need-add-i Inv-loop μ-loop
-add-i c = omega arith
-
-loop-less : tie.Need-loop-less Inv-loop μ-loop
-loop-less c = omega arith
 
 loop-again : tie.Need-loop-again Inv-loop μ-loop
 loop-again c = let k = c .before .before .before in omega (arith, lead-next (k .before .args .spaces) (k .before .args .line .now) (k .loop .i) (c .before .before .loop-test .taken) (not-false _ (c .if1 .left)))
@@ -36,4 +24,4 @@ returns-2 : tie.Need-returns-2 Inv-loop μ-loop
 returns-2 c = let k = c .before in omega (arith, lead-end (k .before .args .spaces) (k .before .args .line .now) (k .loop .i) (c .loop-test .left))
 
 pub past-spec : {M : Type 1} → statement M
-past-spec = tie.close (tie.spec Inv-loop μ-loop loop-holds shared-slice-read-if1 returns add-i loop-less loop-again returns-2)
+past-spec = tie.close (tie.spec Inv-loop μ-loop (λ c. omega arith) (λ c. omega arith) returns (λ c. omega arith) (λ c. omega arith) loop-again returns-2)

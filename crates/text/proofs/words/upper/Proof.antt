@@ -9,9 +9,6 @@ use Rattle.model.proofs.Basics.{and-split}
 use Rattle.text.proofs.words.upper.Statement.{statement}
 use Rattle.text.proofs.words.upper.Tie as tie
 
-between-requires : tie.Need-between-requires
-between-requires c κs = search needs
-
 lower : (c : tie.Then1) → between 97 122 (c .before .before .args .b) ≡ true
 lower c = sym (c .before .between .ensures) ∙ c .if1 .taken
 
@@ -27,4 +24,4 @@ returns-2 : tie.Need-returns-2
 returns-2 c = rw (sym (c .before .between .ensures) ∙ c .if1 .left)
 
 pub upper-spec : {M : Type 1} → statement M
-upper-spec = tie.close (tie.spec between-requires sub-result returns returns-2)
+upper-spec = tie.close (tie.spec (λ c κs. search needs) sub-result returns returns-2)
