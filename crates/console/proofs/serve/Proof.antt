@@ -51,15 +51,6 @@ module _ (k : tie.After-feed Inv-loop μ-loop) where
 loop-holds : tie.Need-loop-holds Inv-loop μ-loop
 loop-holds c = (omega arith, c .before .before .pre .0, refl, given-nothing (c .before .before .args .s))
 
-sub-feed : tie.Need-sub-feed Inv-loop μ-loop
-sub-feed c = search needs
-
-part-feed-start : tie.Need-part-feed-start Inv-loop μ-loop
-part-feed-start c = search needs
-
-part-feed-end : tie.Need-part-feed-end Inv-loop μ-loop
-part-feed-end c = search needs
-
 feed-requires : tie.Need-feed-requires Inv-loop μ-loop
 feed-requires c κs =
     let l = c .before .before .before .loop in
@@ -67,9 +58,6 @@ feed-requires c κs =
 
 add-end : tie.Need-add-end Inv-loop μ-loop
 add-end c = let k = c .before .before .before in record { fits = omega (arith, used k, start k .good .1 .0 .0) }
-
-sub-write-answers : tie.Need-sub-write-answers Inv-loop μ-loop
-sub-write-answers c = search needs
 
 part-write-answers-start : tie.Need-part-write-answers-start Inv-loop μ-loop
 part-write-answers-start c = omega (arith, used (c .before .before .before))
@@ -88,9 +76,6 @@ write-answers-requires c κs =
     let k = c .before .before .before .before .before in
     let l = at-loop k .loop in
     part-handed (start k .args .s) (start k .args .block .now) (l .session) (l .at) (l .inv .3) _ _ (k .feed .result) (k .feed .ensures) (end k) refl
-
-same-length : tie.Need-same-length Inv-loop μ-loop
-same-length c = search needs
 
 returns : tie.Need-returns Inv-loop μ-loop
 returns c =
@@ -111,9 +96,6 @@ loop-again c =
       part-held (start k .args .s) (start k .args .block .now) (l .session) (l .at) (l .inv .3) _ _ (k .feed .result) f (end k) refl,
     )
 
-same-length-2 : tie.Need-same-length-2 Inv-loop μ-loop
-same-length-2 c = search needs
-
 returns-2 : tie.Need-returns-2 Inv-loop μ-loop
 returns-2 c =
     let l = c .before .loop in
@@ -130,20 +112,20 @@ serve-spec =
     Inv-loop
     μ-loop
     loop-holds
-    sub-feed
-    part-feed-start
-    part-feed-end
+    (λ c. search needs)
+    (λ c. search needs)
+    (λ c. search needs)
     feed-requires
     add-end
-    sub-write-answers
+    (λ c. search needs)
     part-write-answers-start
     part-write-answers-end
     slice-reshare-prefix-write-answers
     slice-aggregate-write-answers
     write-answers-requires
-    same-length
+    (λ c. search needs)
     returns
     loop-less
     loop-again
-    same-length-2
+    (λ c. search needs)
     returns-2)

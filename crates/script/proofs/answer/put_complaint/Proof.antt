@@ -7,9 +7,6 @@ use Rattle.script.proofs.AnswerLaws.{length-complaint}
 use Rattle.script.proofs.answer.put_complaint.Statement.{statement}
 use Rattle.script.proofs.answer.put_complaint.Tie as tie
 
-slice-aggregate-put-text : tie.Need-slice-aggregate-put-text
-slice-aggregate-put-text c = search needs
-
 put-text-requires : tie.Need-put-text-requires
 put-text-requires c κs = let st = c .before .before .before in omega (arith, length-complaint (st .args .line), st .pre)
 
@@ -26,9 +23,6 @@ put-byte-requires c κs =
     let st = p .before .before .before .before in
     omega (arith, length-complaint (st .args .line), st .pre, p .put-text .ensures .place, d .put-decimal .ensures .place)
 
-same-length : tie.Need-same-length
-same-length c = search needs
-
 returns : tie.Need-returns
 unfolding complaint joined
 returns c =
@@ -41,9 +35,9 @@ pub put-complaint-spec : {M : Type 1} → statement M
 put-complaint-spec =
     tie.close
     (tie.spec
-    slice-aggregate-put-text
+    (λ c. search needs)
     put-text-requires
     put-decimal-requires
     put-byte-requires
-    same-length
+    (λ c. search needs)
     returns)

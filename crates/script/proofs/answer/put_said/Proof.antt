@@ -42,9 +42,6 @@ put-byte-requires-2 c κs =
       h .put-hex .ensures .place,
     )
 
-same-length : tie.Need-same-length
-same-length c = search needs
-
 returns : tie.Need-returns
 unfolding said joined
 returns c =
@@ -62,5 +59,5 @@ put-said-spec =
     put-byte-requires
     put-hex-requires
     put-byte-requires-2
-    same-length
+    (λ c. search needs)
     returns)

@@ -7,18 +7,6 @@ use Rattle.script.proofs.cut.join.Reads as reads
 use Rattle.script.proofs.cut.join.Lts as lts
 use Rattle.script.proofs.cut.keep.Reads as keep-reads
 
--- src/cut.rt:25:9
-keep-requires : tie.Need-keep-requires
-keep-requires c κs = search needs
-
--- src/cut.rt:26:5
-keep-requires-2 : tie.Need-keep-requires-2
-keep-requires-2 c κs = search needs
-
--- src/cut.rt:22:1
-same-length : tie.Need-same-length
-same-length c = search needs
-
 -- src/cut.rt:22:1
 returns : tie.Need-returns
 returns c =
@@ -27,4 +15,4 @@ returns c =
     keeps-join (start .args .held .now) (start .args .part .now) (k .before .before .before .before .keep .ensures .0) (k .keep2 .ensures .0) (k .keep2 .ensures .1)
 
 pub join-spec : {M : Type 1} → statement M
-join-spec = tie.close (tie.spec keep-requires keep-requires-2 same-length returns)
+join-spec = tie.close (tie.spec (λ c κs. search needs) (λ c κs. search needs) (λ c. search needs) returns)

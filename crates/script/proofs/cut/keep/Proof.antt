@@ -7,15 +7,6 @@ use lib.Seq.{take-all, length-take-le}
 use Rattle.script.proofs.cut.keep.Statement.{statement}
 use Rattle.script.proofs.cut.keep.Tie as tie
 
-sub-room : tie.Need-sub-room
-sub-room c = search needs
-
-put-text-requires : tie.Need-put-text-requires
-put-text-requires c κs = search needs
-
-same-length : tie.Need-same-length
-same-length c = search needs
-
 returns : tie.Need-returns
 returns c =
     let st = c .before .before .before .before .before .before .before in
@@ -32,9 +23,6 @@ long k = length-take-le _ _ (omega arith)
 put-text-requires-2 : tie.Need-put-text-requires-2
 put-text-requires-2 c κs = rw (long (c .before .before)) (omega (arith, c .before .before .before .before .before .pre))
 
-same-length-2 : tie.Need-same-length-2
-same-length-2 c = search needs
-
 returns-2 : tie.Need-returns-2
 returns-2 c =
     let p = c .before .before in
@@ -44,11 +32,11 @@ pub keep-spec : {M : Type 1} → statement M
 keep-spec =
     tie.close
     (tie.spec
-    sub-room
-    put-text-requires
-    same-length
+    (λ c. search needs)
+    (λ c κs. search needs)
+    (λ c. search needs)
     returns
     slice-aggregate-put-text
     put-text-requires-2
-    same-length-2
+    (λ c. search needs)
     returns-2)

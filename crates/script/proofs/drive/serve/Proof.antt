@@ -88,9 +88,6 @@ feed-requires c κs =
 add-end : tie.Need-add-end Inv-loop μ-loop
 add-end c = let k = c .before .before .before .before .before .before .before .before .before in record { fits = omega (arith, used k, start k .good .1 .0 .0) }
 
-sub-write-answers : tie.Need-sub-write-answers Inv-loop μ-loop
-sub-write-answers c = search needs
-
 part-write-answers-start : tie.Need-part-write-answers-start Inv-loop μ-loop
 part-write-answers-start c = omega (arith, used (c .before .before .before .before .before .before .before .before .before .before))
 
@@ -139,9 +136,6 @@ slice-reshare-prefix-keep c = c .before .before .before .before .before .before 
 
 slice-aggregate-keep : tie.Need-slice-aggregate-keep Inv-loop μ-loop
 slice-aggregate-keep c = sym (length-take-le _ _ (c .before .before .before .before .before .before .before .before .before .before .before .before .before .before .before .before .before .feed .ensures .few))
-
-keep-requires : tie.Need-keep-requires Inv-loop μ-loop
-keep-requires c κs = omega arith
 
 loop-less : tie.Need-loop-less Inv-loop μ-loop
 loop-less c = let k = c .before .before .before .before .before .before .before .before .before .before .before .before .before .before .before .before .before .before .before .before in omega (arith, used k, moved k)
@@ -202,7 +196,7 @@ serve-spec =
     part-feed-end
     feed-requires
     add-end
-    sub-write-answers
+    (λ c. search needs)
     part-write-answers-start
     part-write-answers-end
     slice-reshare-prefix-write-answers
@@ -216,7 +210,7 @@ serve-spec =
     returns
     slice-reshare-prefix-keep
     slice-aggregate-keep
-    keep-requires
+    (λ c κs. omega arith)
     loop-less
     loop-again
     same-length-6

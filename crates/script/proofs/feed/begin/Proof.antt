@@ -9,13 +9,9 @@ use Rattle.script.proofs.feed.begin.Reads as reads
 use Rattle.script.proofs.feed.begin.Lts as lts
 use Rattle.machine.proofs.start_factory.Reads as start-factory-reads
 
--- src/feed.rt:34:9
-start-factory-requires : tie.Need-start-factory-requires
-start-factory-requires c κs = search needs
-
 -- src/feed.rt:31:1
 returns : tie.Need-returns
 returns c = record { place = ap (λ (v : View). place v 1) (c .start-factory .ensures); none = refl }
 
 pub begin-spec : {M : Type 1} → statement M
-begin-spec = tie.close (tie.spec start-factory-requires returns)
+begin-spec = tie.close (tie.spec (λ c κs. search needs) returns)

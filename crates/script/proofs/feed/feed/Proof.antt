@@ -47,32 +47,8 @@ module _ (c : tie.After-wrapping-add-u64) where
   inside = omega (arith, ends ended, obeyed .before .before .before .before .before .if2 .left)
 
 -- src/feed.rt:107:9
-whole-lines-requires : tie.Need-whole-lines-requires
-whole-lines-requires c κs = search needs
-
--- src/feed.rt:107:9
-same-length : tie.Need-same-length
-same-length c = search needs
-
--- src/feed.rt:107:9
-same-length-2 : tie.Need-same-length-2
-same-length-2 c = search needs
-
--- src/feed.rt:107:9
-same-length-3 : tie.Need-same-length-3
-same-length-3 c = search needs
-
--- src/feed.rt:107:9
-same-length-4 : tie.Need-same-length-4
-same-length-4 c = search needs
-
--- src/feed.rt:107:9
 returns : tie.Need-returns
 returns c = let k = c .before .before .before .before .before .before .before .before in rw (k .before .before .before .before .before .if1 .taken) (k .whole-lines .ensures)
-
--- src/feed.rt:109:9
-line-end-requires : tie.Need-line-end-requires
-line-end-requires c κs = search needs
 
 -- src/feed.rt:110:24
 slice-aggregate-join : tie.Need-slice-aggregate-join
@@ -81,14 +57,6 @@ slice-aggregate-join c = let st = start (c .before .before) in sym (length-take-
 -- src/feed.rt:110:40
 slice-aggregate-join-2 : tie.Need-slice-aggregate-join-2
 slice-aggregate-join-2 c = let k = c .before .before .before in sym (length-take-le _ (start k .args .block .now) (ends k))
-
--- src/feed.rt:110:9
-join-requires : tie.Need-join-requires
-join-requires c κs = search needs
-
--- src/feed.rt:119:9
-same-length-5 : tie.Need-same-length-5
-same-length-5 c = search needs
 
 -- src/feed.rt:119:9
 returns-2 : tie.Need-returns-2
@@ -100,40 +68,12 @@ returns-2 c =
     (line-long j) (j .join .ensures) (a .s .state) (a .s .line) refl (a .out .now) (c .if2 .taken)
 
 -- src/feed.rt:125:25
-slice-reshare-prefix-obey : tie.Need-slice-reshare-prefix-obey
-slice-reshare-prefix-obey c = search needs
-
--- src/feed.rt:125:25
 slice-aggregate-obey : tie.Need-slice-aggregate-obey
 slice-aggregate-obey c = sym (length-take-le _ _ (c .before .before .before .before .before .join .ensures .inside))
-
--- src/feed.rt:125:9
-obey-requires : tie.Need-obey-requires
-obey-requires c κs = search needs
-
--- src/feed.rt:129:15
-wrapping-add-u64-requires : tie.Need-wrapping-add-u64-requires
-wrapping-add-u64-requires c κs = search needs
 
 -- src/feed.rt:134:15
 add-t32 : tie.Need-add-t32
 add-t32 c = record { fits = omega (arith, inside c, start (ended c) .good .1 .1 .0 .0) }
-
--- src/feed.rt:92:1
-same-length-6 : tie.Need-same-length-6
-same-length-6 c = search needs
-
--- src/feed.rt:92:1
-same-length-7 : tie.Need-same-length-7
-same-length-7 c = search needs
-
--- src/feed.rt:92:1
-same-length-8 : tie.Need-same-length-8
-same-length-8 c = search needs
-
--- src/feed.rt:92:1
-same-length-9 : tie.Need-same-length-9
-same-length-9 c = search needs
 
 -- src/feed.rt:92:1
 returns-3 : tie.Need-returns-3
@@ -149,25 +89,25 @@ pub feed-spec : {M : Type 1} → statement M
 feed-spec =
     tie.close
     (tie.spec
-    whole-lines-requires
-    same-length
-    same-length-2
-    same-length-3
-    same-length-4
+    (λ c κs. search needs)
+    (λ c. search needs)
+    (λ c. search needs)
+    (λ c. search needs)
+    (λ c. search needs)
     returns
-    line-end-requires
+    (λ c κs. search needs)
     slice-aggregate-join
     slice-aggregate-join-2
-    join-requires
-    same-length-5
+    (λ c κs. search needs)
+    (λ c. search needs)
     returns-2
-    slice-reshare-prefix-obey
+    (λ c. search needs)
     slice-aggregate-obey
-    obey-requires
-    wrapping-add-u64-requires
+    (λ c κs. search needs)
+    (λ c κs. search needs)
     add-t32
-    same-length-6
-    same-length-7
-    same-length-8
-    same-length-9
+    (λ c. search needs)
+    (λ c. search needs)
+    (λ c. search needs)
+    (λ c. search needs)
     returns-3)

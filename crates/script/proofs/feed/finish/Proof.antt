@@ -18,22 +18,6 @@ returns c = let a = c .before .before .before .before .before .args in ends-none
 slice-aggregate-obey : tie.Need-slice-aggregate-obey
 slice-aggregate-obey c = sym (length-take-le _ _ (c .before .before .before .before .before .before .before .pre .1))
 
--- src/feed.rt:150:9
-obey-requires : tie.Need-obey-requires
-obey-requires c κs = search needs
-
--- src/feed.rt:140:1
-same-length : tie.Need-same-length
-same-length c = search needs
-
--- src/feed.rt:140:1
-same-length-2 : tie.Need-same-length-2
-same-length-2 c = search needs
-
--- src/feed.rt:140:1
-same-length-3 : tie.Need-same-length-3
-same-length-3 c = search needs
-
 -- src/feed.rt:140:1
 returns-2 : tie.Need-returns-2
 returns-2 c =
@@ -49,8 +33,8 @@ finish-spec =
     (tie.spec
     returns
     slice-aggregate-obey
-    obey-requires
-    same-length
-    same-length-2
-    same-length-3
+    (λ c κs. search needs)
+    (λ c. search needs)
+    (λ c. search needs)
+    (λ c. search needs)
     returns-2)

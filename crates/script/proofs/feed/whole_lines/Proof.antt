@@ -58,9 +58,6 @@ part-keep-start c = at-loop (c .before .before) .loop .inv .4 .within
 part-keep-end : tie.Need-part-keep-end Inv-loop μ-loop
 part-keep-end c = omega (arith, at-loop (c .before .before) .loop .inv .4 .within)
 
-keep-requires : tie.Need-keep-requires Inv-loop μ-loop
-keep-requires c κs = omega arith
-
 same-length : tie.Need-same-length Inv-loop μ-loop
 same-length c = omega (arith, at-loop (c .before .before .before .before .before .before) .loop .inv .0)
 
@@ -101,9 +98,6 @@ obey-requires c κs =
     let l = at-loop k .loop in
     let room = start k .pre in
     (omega (arith, room .bytes, l .inv .1), omega (arith, room .reply, l .inv .2), omega (arith, k .before .loop-test .taken, l .inv .3, l .inv .4 .room))
-
-wrapping-add-u64-requires : tie.Need-wrapping-add-u64-requires Inv-loop μ-loop
-wrapping-add-u64-requires c κs = search needs
 
 -- a line was obeyed
 module _ (c : tie.After-wrapping-add-u64 Inv-loop μ-loop) where
@@ -171,7 +165,7 @@ whole-lines-spec =
     sub-keep
     part-keep-start
     part-keep-end
-    keep-requires
+    (λ c κs. omega arith)
     same-length
     same-length-2
     same-length-3
@@ -181,7 +175,7 @@ whole-lines-spec =
     part-obey-start
     part-obey-end
     obey-requires
-    wrapping-add-u64-requires
+    (λ c κs. search needs)
     add-at
     loop-less
     loop-again

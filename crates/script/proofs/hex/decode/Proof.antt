@@ -17,27 +17,6 @@ abbrev μ-loop : tie.MeasureT-loop
 loop-holds : tie.Need-loop-holds Inv-loop μ-loop
 loop-holds c = (search needs, refl, omega arith, c .before .before .pre, refl, left-start _ _)
 
-sub-loop : tie.Need-sub-loop Inv-loop μ-loop
-sub-loop c = search needs
-
-shared-slice-read-digit-value : tie.Need-shared-slice-read-digit-value Inv-loop μ-loop
-shared-slice-read-digit-value c = search needs
-
-digit-value-requires : tie.Need-digit-value-requires Inv-loop μ-loop
-digit-value-requires c κs = search needs
-
-add-digit-value : tie.Need-add-digit-value Inv-loop μ-loop
-add-digit-value c = search needs
-
-shared-slice-read-digit-value-2 : tie.Need-shared-slice-read-digit-value-2 Inv-loop μ-loop
-shared-slice-read-digit-value-2 c = search needs
-
-digit-value-requires-2 : tie.Need-digit-value-requires-2 Inv-loop μ-loop
-digit-value-requires-2 c κs = search needs
-
-same-length : tie.Need-same-length Inv-loop μ-loop
-same-length c = search needs
-
 returns : tie.Need-returns Inv-loop μ-loop
 returns c =
     let u = c .before in
@@ -45,33 +24,12 @@ returns c =
     left-stop (k .loop .at) (k .loop .i) (k .loop .inv .5) (omega (arith, u .before .before .before .before .loop-test .taken))
     (first-none _ _ (u .before .before .digit-value .ensures) (u .digit-value2 .ensures) (c .if1 .taken))
 
-same-length-2 : tie.Need-same-length-2 Inv-loop μ-loop
-same-length-2 c = search needs
-
 returns-2 : tie.Need-returns-2 Inv-loop μ-loop
 returns-2 c =
     let u = c .before .before in
     let k = u .before .before .before .before .before in
     left-stop (k .loop .at) (k .loop .i) (k .loop .inv .5) (omega (arith, u .before .before .before .before .loop-test .taken))
     (second-none _ _ (u .before .before .digit-value .ensures) (u .digit-value2 .ensures) (c .if2 .taken))
-
-mul-out : tie.Need-mul-out Inv-loop μ-loop
-mul-out c = search needs
-
-add-out : tie.Need-add-out Inv-loop μ-loop
-add-out c = search needs
-
-slice-write-out : tie.Need-slice-write-out Inv-loop μ-loop
-slice-write-out c = search needs
-
-add-i : tie.Need-add-i Inv-loop μ-loop
-add-i c = search needs
-
-add-at : tie.Need-add-at Inv-loop μ-loop
-add-at c = search needs
-
-loop-less : tie.Need-loop-less Inv-loop μ-loop
-loop-less c = search needs
 
 loop-again : tie.Need-loop-again Inv-loop μ-loop
 loop-again c =
@@ -90,9 +48,6 @@ loop-again c =
           (a-pair _ _ p q (c .before .if1 .left) (c .if2 .left))),
     )
 
-same-length-3 : tie.Need-same-length-3 Inv-loop μ-loop
-same-length-3 c = search needs
-
 returns-3 : tie.Need-returns-3 Inv-loop μ-loop
 returns-3 c =
     let l = c .before .loop in
@@ -105,22 +60,22 @@ decode-spec =
     Inv-loop
     μ-loop
     loop-holds
-    sub-loop
-    shared-slice-read-digit-value
-    digit-value-requires
-    add-digit-value
-    shared-slice-read-digit-value-2
-    digit-value-requires-2
-    same-length
+    (λ c. search needs)
+    (λ c. search needs)
+    (λ c κs. search needs)
+    (λ c. search needs)
+    (λ c. search needs)
+    (λ c κs. search needs)
+    (λ c. search needs)
     returns
-    same-length-2
+    (λ c. search needs)
     returns-2
-    mul-out
-    add-out
-    slice-write-out
-    add-i
-    add-at
-    loop-less
+    (λ c. search needs)
+    (λ c. search needs)
+    (λ c. search needs)
+    (λ c. search needs)
+    (λ c. search needs)
+    (λ c. search needs)
     loop-again
-    same-length-3
+    (λ c. search needs)
     returns-3)

@@ -24,9 +24,6 @@ no-decimal c = sym (c .before .between .ensures) ∙ c .if1 .left
 no-small : (c : tie.Else2) → between 97 102 (byte (c .before .before .before)) ≡ false
 no-small c = sym (c .before .between2 .ensures) ∙ c .if2 .left
 
-between-requires : tie.Need-between-requires
-between-requires c κs = search needs
-
 sub-result : tie.Need-sub-result
 sub-result c = omega (arith, above 48 57 (byte (c .before)) (sym (c .before .between .ensures) ∙ c .if1 .taken))
 
@@ -34,18 +31,12 @@ returns : tie.Need-returns
 unfolding digitValue
 returns c = rw (sym (c .before .between .ensures) ∙ c .if1 .taken)
 
-between-requires-2 : tie.Need-between-requires-2
-between-requires-2 c κs = search needs
-
 sub-result-2 : tie.Need-sub-result-2
 sub-result-2 c = omega (arith, above 97 102 (byte (c .before .before .before)) (sym (c .before .between2 .ensures) ∙ c .if2 .taken))
 
 returns-2 : tie.Need-returns-2
 unfolding digitValue
 returns-2 c = rw (no-decimal (c .before .before), sym (c .before .between2 .ensures) ∙ c .if2 .taken)
-
-between-requires-3 : tie.Need-between-requires-3
-between-requires-3 c κs = search needs
 
 sub-result-3 : tie.Need-sub-result-3
 sub-result-3 c =
@@ -65,13 +56,13 @@ pub digit-value-spec : {M : Type 1} → statement M
 digit-value-spec =
     tie.close
     (tie.spec
-    between-requires
+    (λ c κs. search needs)
     sub-result
     returns
-    between-requires-2
+    (λ c κs. search needs)
     sub-result-2
     returns-2
-    between-requires-3
+    (λ c κs. search needs)
     sub-result-3
     returns-3
     returns-4)

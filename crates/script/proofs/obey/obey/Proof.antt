@@ -22,12 +22,6 @@ write-bounded k = rw (k .length .given .1) at (k .before .before .before .before
 image-bounded : (k : tie.After-count2) → k .count2 .given .0 .0 ≤ length (k .before .before .before .before .parse .last .1 .0)
 image-bounded k = rw (k .count2 .given .1) at (k .before .before .before .before .parse .ensures .bounded)
 
-parse-requires : tie.Need-parse-requires
-parse-requires c κs = search needs
-
-enum-known-count : tie.Need-enum-known-count
-enum-known-count c = search needs
-
 slice-reshare-prefix-obey-line : tie.Need-slice-reshare-prefix-obey-line
 slice-reshare-prefix-obey-line c = line-bounded (c .before) .0
 
@@ -48,9 +42,6 @@ obey-line-requires c κs =
     let e = length-take-le (k .count .given .0 .1 .0) (st .args .reply .now) (omega (arith, h, st .pre .1)) in
     omega (arith, e, h, st .pre .2)
 
-enum-known-length : tie.Need-enum-known-length
-enum-known-length c = search needs
-
 slice-relend-prefix-obey-write : tie.Need-slice-relend-prefix-obey-write
 slice-relend-prefix-obey-write c = omega (arith, write-bounded (c .before), c .before .before .before .before .before .before .before .before .before .before .before .pre .1)
 
@@ -65,53 +56,14 @@ obey-write-requires c κs =
     let e = length-take-le (k .length .given .0 .0) (st .args .reply .now) (omega (arith, h, st .pre .1)) in
     omega (arith, e, h, st .pre .2)
 
-enum-told : tie.Need-enum-told
-enum-told c = search needs
-
-restart-requires : tie.Need-restart-requires
-restart-requires c κs = search needs
-
-say-begun-requires : tie.Need-say-begun-requires
-say-begun-requires c κs = search needs
-
-enum-known-count-2 : tie.Need-enum-known-count-2
-enum-known-count-2 c = search needs
-
 slice-reshare-prefix-start-image : tie.Need-slice-reshare-prefix-start-image
 slice-reshare-prefix-start-image c = image-bounded (c .before)
 
 slice-aggregate-start-image : tie.Need-slice-aggregate-start-image
 slice-aggregate-start-image c = sym (length-take-le _ _ (image-bounded (c .before .before)))
 
-start-image-requires : tie.Need-start-image-requires
-start-image-requires c κs = search needs
-
-say-begun-requires-2 : tie.Need-say-begun-requires-2
-say-begun-requires-2 c κs = search needs
-
-enum-told-2 : tie.Need-enum-told-2
-enum-told-2 c = search needs
-
-start-factory-requires : tie.Need-start-factory-requires
-start-factory-requires c κs = search needs
-
-say-begun-requires-3 : tie.Need-say-begun-requires-3
-say-begun-requires-3 c κs = search needs
-
-enum-told-3 : tie.Need-enum-told-3
-enum-told-3 c = search needs
-
 put-complaint-requires : tie.Need-put-complaint-requires
 put-complaint-requires c κs = let st = c .before .before .before .before .before .before .before .before .before .before .before in omega (arith, complaint-short (st .args .line) (st .fits .line .fits), st .pre .2)
-
-same-length : tie.Need-same-length
-same-length c = search needs
-
-same-length-2 : tie.Need-same-length-2
-same-length-2 c = search needs
-
-same-length-3 : tie.Need-same-length-3
-same-length-3 c = search needs
 
 returns : tie.Need-returns
 unfolding done
@@ -124,15 +76,6 @@ returns c =
     as-ordered (viewOf (a .s)) (a .line) (a .text .now) (rw (k .count .given .1) at (k .before .before .before .before .parse .ensures .order)) refl
     (answers-by (line-lent (viewOf (a .s)) l n (a .reply .now) (omega (arith, line-bounded k .1, st .pre .1))) (c .before .before .before .before .obey-line .ensures))
 
-same-length-4 : tie.Need-same-length-4
-same-length-4 c = search needs
-
-same-length-5 : tie.Need-same-length-5
-same-length-5 c = search needs
-
-same-length-6 : tie.Need-same-length-6
-same-length-6 c = search needs
-
 returns-2 : tie.Need-returns-2
 unfolding done
 returns-2 c =
@@ -143,24 +86,12 @@ returns-2 c =
     as-ordered (viewOf (a .s)) (a .line) (a .text .now) (rw (k .length .given .1) at (k .before .before .before .before .parse .ensures .order)) refl
     (answers-by (image-lent (viewOf (a .s)) n (a .reply .now) (omega (arith, write-bounded k, st .pre .1))) (c .before .before .before .before .obey-write .ensures))
 
-same-length-7 : tie.Need-same-length-7
-same-length-7 c = search needs
-
-same-length-8 : tie.Need-same-length-8
-same-length-8 c = search needs
-
 returns-3 : tie.Need-returns-3
 unfolding done
 returns-3 c =
     let a = c .before .before .before .before .before .before .before .before .before .before .before .before .before .before .before .args in
     as-ordered (viewOf (a .s)) (a .line) (a .text .now) (rw (c .before .before .before .before .before .enum-told .given .1) at (c .before .before .before .before .before .before .before .before .before .parse .ensures .order)) refl
     (answers-by (ap alone (c .before .before .before .before .restart .ensures)) (c .before .before .say-begun .ensures))
-
-same-length-9 : tie.Need-same-length-9
-same-length-9 c = search needs
-
-same-length-10 : tie.Need-same-length-10
-same-length-10 c = search needs
 
 returns-4 : tie.Need-returns-4
 unfolding done
@@ -169,24 +100,12 @@ returns-4 c =
     as-ordered (viewOf (a .s)) (a .line) (a .text .now) (rw (c .before .before .before .before .before .before .before .count2 .given .1) at (c .before .before .before .before .before .before .before .before .before .before .before .parse .ensures .order)) refl
     (answers-by (ap alone (c .before .before .before .before .start-image .ensures)) (c .before .before .say-begun2 .ensures))
 
-same-length-11 : tie.Need-same-length-11
-same-length-11 c = search needs
-
-same-length-12 : tie.Need-same-length-12
-same-length-12 c = search needs
-
 returns-5 : tie.Need-returns-5
 unfolding done
 returns-5 c =
     let a = c .before .before .before .before .before .before .before .before .before .before .before .before .before .before .before .args in
     as-ordered (viewOf (a .s)) (a .line) (a .text .now) (rw (c .before .before .before .before .before .enum-told2 .given .1) at (c .before .before .before .before .before .before .before .before .before .parse .ensures .order)) refl
     (answers-by (ap (λ (v : View). alone (record { state = v; number = 0 })) (c .before .before .before .before .start-factory .ensures)) (c .before .before .say-begun3 .ensures))
-
-same-length-13 : tie.Need-same-length-13
-same-length-13 c = search needs
-
-same-length-14 : tie.Need-same-length-14
-same-length-14 c = search needs
 
 returns-6 : tie.Need-returns-6
 returns-6 c =
@@ -200,47 +119,47 @@ pub obey-spec : {M : Type 1} → statement M
 obey-spec =
     tie.close
     (tie.spec
-    parse-requires
-    enum-known-count
+    (λ c κs. search needs)
+    (λ c. search needs)
     slice-reshare-prefix-obey-line
     slice-aggregate-obey-line
     slice-relend-prefix-obey-line
     slice-aggregate-obey-line-2
     obey-line-requires
-    enum-known-length
+    (λ c. search needs)
     slice-relend-prefix-obey-write
     slice-aggregate-obey-write
     obey-write-requires
-    enum-told
-    restart-requires
-    say-begun-requires
-    enum-known-count-2
+    (λ c. search needs)
+    (λ c κs. search needs)
+    (λ c κs. search needs)
+    (λ c. search needs)
     slice-reshare-prefix-start-image
     slice-aggregate-start-image
-    start-image-requires
-    say-begun-requires-2
-    enum-told-2
-    start-factory-requires
-    say-begun-requires-3
-    enum-told-3
+    (λ c κs. search needs)
+    (λ c κs. search needs)
+    (λ c. search needs)
+    (λ c κs. search needs)
+    (λ c κs. search needs)
+    (λ c. search needs)
     put-complaint-requires
-    same-length
-    same-length-2
-    same-length-3
+    (λ c. search needs)
+    (λ c. search needs)
+    (λ c. search needs)
     returns
-    same-length-4
-    same-length-5
-    same-length-6
+    (λ c. search needs)
+    (λ c. search needs)
+    (λ c. search needs)
     returns-2
-    same-length-7
-    same-length-8
+    (λ c. search needs)
+    (λ c. search needs)
     returns-3
-    same-length-9
-    same-length-10
+    (λ c. search needs)
+    (λ c. search needs)
     returns-4
-    same-length-11
-    same-length-12
+    (λ c. search needs)
+    (λ c. search needs)
     returns-5
-    same-length-13
-    same-length-14
+    (λ c. search needs)
+    (λ c. search needs)
     returns-6)

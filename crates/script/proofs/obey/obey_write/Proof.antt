@@ -6,18 +6,6 @@ use borrow.Author.Needs.{needs}
 use Rattle.script.proofs.obey.obey_write.Statement.{statement}
 use Rattle.script.proofs.obey.obey_write.Tie as tie
 
-write-image-requires : tie.Need-write-image-requires
-write-image-requires c κs = search needs
-
-say-requires : tie.Need-say-requires
-say-requires c κs = search needs
-
-same-length : tie.Need-same-length
-same-length c = search needs
-
-same-length-2 : tie.Need-same-length-2
-same-length-2 c = search needs
-
 returns : tie.Need-returns
 returns c =
     let k = c .before .before .before .before .before .before .before in
@@ -26,4 +14,4 @@ returns c =
 
 pub obey-write-spec : {M : Type 1} → statement M
 obey-write-spec =
-    tie.close (tie.spec write-image-requires say-requires same-length same-length-2 returns)
+    tie.close (tie.spec (λ c κs. search needs) (λ c κs. search needs) (λ c. search needs) (λ c. search needs) returns)

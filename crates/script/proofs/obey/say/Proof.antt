@@ -22,9 +22,6 @@ put-said-requires c κs =
     let e = length-take-le (r .length) reply (search needs) in
     omega (arith, said-short (r .number) (take (r .length) reply) (number-byte st), e, st .pre)
 
-same-length : tie.Need-same-length
-same-length c = search needs
-
 returns : tie.Need-returns
 returns c =
     let p = c .before .before in
@@ -43,9 +40,6 @@ put-said-requires-2 c κs =
     let st = c .before .before .before .before .before in
     omega (arith, said-short (st .args .r .number) (st .args .reply .now) (number-byte st), st .pre)
 
-same-length-2 : tie.Need-same-length-2
-same-length-2 c = search needs
-
 returns-2 : tie.Need-returns-2
 returns-2 c =
     let st = c .before .before .before .before .before .before .before .before in
@@ -60,8 +54,8 @@ say-spec =
     (tie.spec
     slice-aggregate-put-said
     put-said-requires
-    same-length
+    (λ c. search needs)
     returns
     put-said-requires-2
-    same-length-2
+    (λ c. search needs)
     returns-2)

@@ -10,14 +10,8 @@ use Rattle.script.proofs.obey.say_begun.Tie as tie
 number-byte : (st : tie.Start) → st .args .r .number < 256
 number-byte st = search needs
 
-slice-aggregate-put-said : tie.Need-slice-aggregate-put-said
-slice-aggregate-put-said c = search needs
-
 put-said-requires : tie.Need-put-said-requires
 put-said-requires c κs = let st = c .before .before .before in omega (arith, said-short (st .args .r .number) [] (number-byte st), st .pre)
-
-same-length : tie.Need-same-length
-same-length c = search needs
 
 returns : tie.Need-returns
 returns c =
@@ -31,4 +25,4 @@ returns c =
 
 pub say-begun-spec : {M : Type 1} → statement M
 say-begun-spec =
-    tie.close (tie.spec slice-aggregate-put-said put-said-requires same-length returns)
+    tie.close (tie.spec (λ c. search needs) put-said-requires (λ c. search needs) returns)

@@ -9,11 +9,8 @@ use Rattle.script.proofs.parse.is_letter.Tie as tie
 returns : tie.Need-returns
 returns c = let a = c .before .args in sym (lists.same-length (a .word .now) (a .letter ∷ []) (c .if1 .taken))
 
-shared-slice-read-result : tie.Need-shared-slice-read-result
-shared-slice-read-result c = search needs
-
 returns-2 : tie.Need-returns-2
 returns-2 c = let a = c .before .before .args in sym (same-one (a .word .now) (a .letter) (c .before .if1 .left))
 
 pub is-letter-spec : {M : Type 1} → statement M
-is-letter-spec = tie.close (tie.spec returns shared-slice-read-result returns-2)
+is-letter-spec = tie.close (tie.spec returns (λ c. search needs) returns-2)

@@ -9,18 +9,12 @@ use Rattle.script.specs.Directive.{oneField}
 use Rattle.script.proofs.parse.one_field.Statement.{statement}
 use Rattle.script.proofs.parse.one_field.Tie as tie
 
-is-letter-requires : tie.Need-is-letter-requires
-is-letter-requires c κs = search needs
-
 returns : tie.Need-returns
 unfolding oneField pairsRead over
 returns c = λ b. record { order = rw (sym (c .before .is-letter .ensures) ∙ c .if1 .taken); bytes = refl; bounded = tt }
 
 no-restart : (c : tie.Else1) → same (c .before .before .before .args .w .now) (82 ∷ []) ≡ false
 no-restart c = sym (c .before .is-letter .ensures) ∙ c .if1 .left
-
-is-letter-requires-2 : tie.Need-is-letter-requires-2
-is-letter-requires-2 c κs = search needs
 
 returns-2 : tie.Need-returns-2
 unfolding oneField pairsRead over
@@ -32,4 +26,4 @@ returns-3 c = λ b. record { order = rw (no-restart (c .before .before), sym (c 
 
 pub one-field-spec : {M : Type 1} → statement M
 one-field-spec =
-    tie.close (tie.spec is-letter-requires returns is-letter-requires-2 returns-2 returns-3)
+    tie.close (tie.spec (λ c κs. search needs) returns (λ c κs. search needs) returns-2 returns-3)

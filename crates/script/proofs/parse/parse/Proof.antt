@@ -15,9 +15,6 @@ use Rattle.script.proofs.parse.parse.Tie as tie
 returns : tie.Need-returns
 returns c = too-long (c .before .before .before .args .text .now) _ (c .if1 .taken)
 
-next-word-requires : tie.Need-next-word-requires
-next-word-requires c κs = search needs
-
 -- ---- the first field
 
 within1 : (c : tie.After-next-word) → Within (c .before .before .before .before .args .text .now) (c .next-word .result)
@@ -41,9 +38,6 @@ bytes-of-requires c κs = within1 (c .before .before)
 
 next-word-requires-2 : tie.Need-next-word-requires-2
 next-word-requires-2 c κs = within1 (c .before .before .before) .inside
-
-one-field-requires : tie.Need-one-field-requires
-one-field-requires c κs = search needs
 
 returns-3 : tie.Need-returns-3
 unfolding understood hexField
@@ -80,9 +74,6 @@ second-short c =
 
 two-fields-requires : tie.Need-two-fields-requires
 two-fields-requires c κs = omega (arith, second-short (c .before .before .before .before), c .before .before .before .before .before .before .before .before .before .before .before .before .before .before .before .pre)
-
-same-length : tie.Need-same-length
-same-length c = search needs
 
 returns-4 : tie.Need-returns-4
 unfolding understood
@@ -125,9 +116,6 @@ returns-5 c =
 three-fields-requires : tie.Need-three-fields-requires
 three-fields-requires c κs = omega (arith, second-short (c .before .before .before .before .before .before .before .before), c .before .before .before .before .before .before .before .before .before .before .before .before .before .before .before .before .before .before .before .pre)
 
-same-length-2 : tie.Need-same-length-2
-same-length-2 c = search needs
-
 returns-6 : tie.Need-returns-6
 unfolding understood
 returns-6 c =
@@ -143,20 +131,20 @@ parse-spec =
     tie.close
     (tie.spec
     returns
-    next-word-requires
+    (λ c κs. search needs)
     returns-2
     bytes-of-requires
     next-word-requires-2
-    one-field-requires
+    (λ c κs. search needs)
     returns-3
     bytes-of-requires-2
     next-word-requires-3
     two-fields-requires
-    same-length
+    (λ c. search needs)
     returns-4
     bytes-of-requires-3
     next-word-requires-4
     returns-5
     three-fields-requires
-    same-length-2
+    (λ c. search needs)
     returns-6)

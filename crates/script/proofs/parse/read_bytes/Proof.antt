@@ -10,20 +10,11 @@ use Rattle.script.proofs.HexLaws.{told-bytes, count-inside}
 use Rattle.script.proofs.parse.read_bytes.Statement.{statement}
 use Rattle.script.proofs.parse.read_bytes.Tie as tie
 
-is-letter-requires : tie.Need-is-letter-requires
-is-letter-requires c κs = search needs
-
 returns : tie.Need-returns
 unfolding bytesOf pairsRead over
 returns c =
     let t = sym (c .before .is-letter .ensures) ∙ c .if1 .taken in
     record { told = rw t; bytes = rw (same→≡ _ (45 ∷ []) t); inside = omega arith }
-
-decode-requires : tie.Need-decode-requires
-decode-requires c κs = search needs
-
-same-length : tie.Need-same-length
-same-length c = search needs
 
 returns-2 : tie.Need-returns-2
 unfolding bytesOf
@@ -35,4 +26,4 @@ returns-2 c =
 
 pub read-bytes-spec : {M : Type 1} → statement M
 read-bytes-spec =
-    tie.close (tie.spec is-letter-requires returns decode-requires same-length returns-2)
+    tie.close (tie.spec (λ c κs. search needs) returns (λ c κs. search needs) (λ c. search needs) returns-2)

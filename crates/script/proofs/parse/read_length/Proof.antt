@@ -23,12 +23,6 @@ loop-holds : tie.Need-loop-holds Inv-loop μ-loop
 unfolding lengthOf
 loop-holds c = (search needs, search needs, refl)
 
-shared-slice-read-b : tie.Need-shared-slice-read-b Inv-loop μ-loop
-shared-slice-read-b c = search needs
-
-between-requires : tie.Need-between-requires Inv-loop μ-loop
-between-requires c κs = search needs
-
 -- the byte that is read
 abbrev byte : tie.After-between Inv-loop μ-loop → ℕ
 byte u = getD (u .before .before .before .before .before .args .word .now) (u .before .before .before .loop .i) 0
@@ -49,9 +43,6 @@ returns c =
     sym (k .loop .inv .2 ∙ length-stop _ (k .loop .v) (k .loop .i) (u .before .before .loop-test .taken)
     (sym (u .between .ensures) ∙ not-true _ (c .if1 .taken)))
 
-mul-v : tie.Need-mul-v Inv-loop μ-loop
-mul-v c = search needs
-
 sub-v : tie.Need-sub-v Inv-loop μ-loop
 sub-v c = in-range c .0
 
@@ -67,12 +58,6 @@ returns-2 c =
     let k = u .before .before .before in
     sym (k .loop .inv .2 ∙ length-next _ (k .loop .v) (k .loop .i) (u .before .before .loop-test .taken) (a-digit (c .before)) ∙
     length-above _ _ (c .if2 .taken))
-
-add-i : tie.Need-add-i Inv-loop μ-loop
-add-i c = search needs
-
-loop-less : tie.Need-loop-less Inv-loop μ-loop
-loop-less c = search needs
 
 loop-again : tie.Need-loop-again Inv-loop μ-loop
 loop-again c =
@@ -95,15 +80,15 @@ read-length-spec =
     Inv-loop
     μ-loop
     loop-holds
-    shared-slice-read-b
-    between-requires
+    (λ c. search needs)
+    (λ c κs. search needs)
     returns
-    mul-v
+    (λ c. search needs)
     sub-v
     cast-v
     add-v
     returns-2
-    add-i
-    loop-less
+    (λ c. search needs)
+    (λ c. search needs)
     loop-again
     returns-3)

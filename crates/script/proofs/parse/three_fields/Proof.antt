@@ -8,44 +8,20 @@ use Rattle.script.proofs.OrderLaws.{three-other, three-wrong, three-lin
 use Rattle.script.proofs.parse.three_fields.Statement.{statement}
 use Rattle.script.proofs.parse.three_fields.Tie as tie
 
-is-letter-requires : tie.Need-is-letter-requires
-is-letter-requires c κs = search needs
-
 returns : tie.Need-returns
 returns c = three-other _ _ _ _ (sym (c .before .is-letter .ensures) ∙ not-true _ (c .if1 .taken))
 
 is-line : (c : tie.Else1) → same (c .before .before .before .before .before .before .args .w .now) (76 ∷ []) ≡ true
 is-line c = sym (c .before .is-letter .ensures) ∙ not-false _ (c .if1 .left)
 
-read-bytes-requires : tie.Need-read-bytes-requires
-read-bytes-requires c κs = search needs
-
-same-length : tie.Need-same-length
-same-length c = search needs
-
 returns-2 : tie.Need-returns-2
 returns-2 c = three-wrong _ _ _ (is-line (c .before .before .before .before .before .before)) (c .before .before .before .before .read-bytes .ensures) (not-true _ (c .if2 .taken))
-
-read-length-requires : tie.Need-read-length-requires
-read-length-requires c κs = search needs
-
-enum-known-length : tie.Need-enum-known-length
-enum-known-length c = search needs
-
-enum-told : tie.Need-enum-told
-enum-told c = search needs
-
-same-length-2 : tie.Need-same-length-2
-same-length-2 c = search needs
 
 returns-3 : tie.Need-returns-3
 returns-3 c =
     let r = c .before .before .before in
     rw (c .before .length .given .1)
     at (three-line _ _ _ (is-line (r .before .before .before .before .before .before .before)) (r .before .before .before .before .before .read-bytes .ensures) (r .read-length .result) (not-false _ (r .before .if2 .left)) (r .read-length .ensures))
-
-same-length-3 : tie.Need-same-length-3
-same-length-3 c = search needs
 
 returns-4 : tie.Need-returns-4
 returns-4 c =
@@ -57,15 +33,15 @@ pub three-fields-spec : {M : Type 1} → statement M
 three-fields-spec =
     tie.close
     (tie.spec
-    is-letter-requires
+    (λ c κs. search needs)
     returns
-    read-bytes-requires
-    same-length
+    (λ c κs. search needs)
+    (λ c. search needs)
     returns-2
-    read-length-requires
-    enum-known-length
-    enum-told
-    same-length-2
+    (λ c κs. search needs)
+    (λ c. search needs)
+    (λ c. search needs)
+    (λ c. search needs)
     returns-3
-    same-length-3
+    (λ c. search needs)
     returns-4)

@@ -8,18 +8,6 @@ use Rattle.script.proofs.OrderLaws.{two-write, two-other, two-image, tw
 use Rattle.script.proofs.parse.two_fields.Statement.{statement}
 use Rattle.script.proofs.parse.two_fields.Tie as tie
 
-is-letter-requires : tie.Need-is-letter-requires
-is-letter-requires c κs = search needs
-
-read-length-requires : tie.Need-read-length-requires
-read-length-requires c κs = search needs
-
-enum-known-n : tie.Need-enum-known-n
-enum-known-n c = search needs
-
-enum-told : tie.Need-enum-told
-enum-told c = search needs
-
 is-write : (c : tie.Then1) → same (c .before .before .before .before .before .args .w .now) (87 ∷ []) ≡ true
 is-write c = sym (c .before .is-letter .ensures) ∙ c .if1 .taken
 
@@ -38,26 +26,14 @@ returns-2 c =
     let a = r .before .before .before .before .before .before .args in
     rw (c .enum-told .given .1) at (two-write (a .w .now) (a .v .now) (a .bytes .now) (r .read-length .result) (is-write (r .before)) (r .read-length .ensures))
 
-is-letter-requires-2 : tie.Need-is-letter-requires-2
-is-letter-requires-2 c κs = search needs
-
 returns-3 : tie.Need-returns-3
 returns-3 c = two-other _ _ _ (no-write (c .before .before)) (sym (c .before .is-letter2 .ensures) ∙ not-true _ (c .if2 .taken))
 
 is-image : (c : tie.Else2) → same (c .before .before .before .before .before .before .before .args .w .now) (73 ∷ []) ≡ true
 is-image c = sym (c .before .is-letter2 .ensures) ∙ not-false _ (c .if2 .left)
 
-read-bytes-requires : tie.Need-read-bytes-requires
-read-bytes-requires c κs = search needs
-
-same-length : tie.Need-same-length
-same-length c = search needs
-
 returns-4 : tie.Need-returns-4
 returns-4 c = two-wrong _ _ (no-write (c .before .before .before .before .before .before .before .before)) (is-image (c .before .before .before .before .before .before)) (c .before .before .before .before .read-bytes .ensures) (not-true _ (c .if3 .taken))
-
-same-length-2 : tie.Need-same-length-2
-same-length-2 c = search needs
 
 returns-5 : tie.Need-returns-5
 returns-5 c = two-image _ _ (no-write (c .before .before .before .before .before .before .before .before)) (is-image (c .before .before .before .before .before .before)) (c .before .before .before .before .read-bytes .ensures) (not-false _ (c .if3 .left))
@@ -66,16 +42,16 @@ pub two-fields-spec : {M : Type 1} → statement M
 two-fields-spec =
     tie.close
     (tie.spec
-    is-letter-requires
-    read-length-requires
-    enum-known-n
-    enum-told
+    (λ c κs. search needs)
+    (λ c κs. search needs)
+    (λ c. search needs)
+    (λ c. search needs)
     returns
     returns-2
-    is-letter-requires-2
+    (λ c κs. search needs)
     returns-3
-    read-bytes-requires
-    same-length
+    (λ c κs. search needs)
+    (λ c. search needs)
     returns-4
-    same-length-2
+    (λ c. search needs)
     returns-5)

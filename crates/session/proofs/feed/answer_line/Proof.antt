@@ -10,15 +10,6 @@ use Rattle.session.proofs.feed.answer_line.Lts as lts
 use Rattle.engine.proofs.line.obey.Reads as obey-reads
 use Rattle.session.proofs.run.say.Reads as say-reads
 
-obey-requires : tie.Need-obey-requires
-obey-requires c κs = search needs
-
-say-requires : tie.Need-say-requires
-say-requires c κs = search needs
-
-same-length : tie.Need-same-length
-same-length c = search needs
-
 returns : tie.Need-returns
 returns c =
     let start = c .before .before .before .before .before .before .before .before .before .before .before in
@@ -27,4 +18,4 @@ returns c =
     answers-obeyed (start .args .s) (start .pre .0) (start .args .line .now) (start .args .out .now) (start .pre .1) (r .result) _ (r .ensures) _ _ (c .before .before .say .ensures) kept
 
 pub answer-line-spec : {M : Type 1} → statement M
-answer-line-spec = tie.close (tie.spec obey-requires say-requires same-length returns)
+answer-line-spec = tie.close (tie.spec (λ c κs. search needs) (λ c κs. search needs) (λ c. search needs) returns)

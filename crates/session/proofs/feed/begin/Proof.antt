@@ -12,12 +12,6 @@ use Rattle.session.proofs.feed.begin.Lts as lts
 use Rattle.machine.proofs.start_factory.Reads as start-factory-reads
 use Rattle.session.proofs.feed.nothing_held.Reads as nothing-held-reads
 
-start-factory-requires : tie.Need-start-factory-requires
-start-factory-requires c κs = search needs
-
-nothing-held-requires : tie.Need-nothing-held-requires
-nothing-held-requires c κs = search needs
-
 returns : tie.Need-returns
 returns c =
     let v = view-is (c .before .start-factory .result) startFactory (c .before .start-factory .ensures) in
@@ -28,4 +22,4 @@ returns c =
     }
 
 pub begin-spec : {M : Type 1} → statement M
-begin-spec = tie.close (tie.spec start-factory-requires nothing-held-requires returns)
+begin-spec = tie.close (tie.spec (λ c κs. search needs) (λ c κs. search needs) returns)

@@ -16,25 +16,13 @@ use Rattle.session.proofs.feed.answer_line.Reads as answer-line-reads
 use Rattle.session.proofs.feed.nothing_held.Reads as nothing-held-reads
 use Rattle.session.proofs.feed.whole_lines.Reads as whole-lines-reads
 
-whole-lines-requires : tie.Need-whole-lines-requires
-whole-lines-requires c κs = search needs
-
-same-length : tie.Need-same-length
-same-length c = search needs
-
 returns : tie.Need-returns
 returns c = rw (c .before .before .before .before .if1 .taken) (c .before .before .whole-lines .ensures)
-
-line-end-requires : tie.Need-line-end-requires
-line-end-requires c κs = search needs
 
 slice-aggregate-keep : tie.Need-slice-aggregate-keep
 slice-aggregate-keep c =
     let start = c .before .before .before .before .before .before .before .before in
     sym (length-take-le _ (start .args .block .now) (end-inside (start .args .block .now) 0 _ (omega arith) (c .before .line-end .ensures)))
-
-keep-requires : tie.Need-keep-requires
-keep-requires c κs = search needs
 
 returns-2 : tie.Need-returns-2
 returns-2 c =
@@ -51,19 +39,10 @@ slice-aggregate-answer-line c =
     let e : length (c .before .before .before .keep .result .bytes) ≡ 121 = search needs in
     sym (length-take-le _ (c .before .before .before .keep .result .bytes) (omega (arith, e, c .before .before .before .keep .ensures .count)))
 
-answer-line-requires : tie.Need-answer-line-requires
-answer-line-requires c κs = search needs
-
-nothing-held-requires : tie.Need-nothing-held-requires
-nothing-held-requires c κs = search needs
-
 add-t20 : tie.Need-add-t20
 add-t20 c =
     let start = c .before .before .before .before .before .before .before .before .before .before .before .before .before .before .before .before .before .before in
     record { fits = omega (arith, end-inside (start .args .block .now) 0 _ (omega arith) (c .before .before .before .before .before .before .before .before .before .before .before .line-end .ensures), c .before .before .before .before .before .before .before .before .if2 .left, start .good .1 .0 .0) }
-
-same-length-2 : tie.Need-same-length-2
-same-length-2 c = search needs
 
 returns-3 : tie.Need-returns-3
 returns-3 c =
@@ -76,17 +55,17 @@ pub feed-spec : {M : Type 1} → statement M
 feed-spec =
     tie.close
     (tie.spec
-    whole-lines-requires
-    same-length
+    (λ c κs. search needs)
+    (λ c. search needs)
     returns
-    line-end-requires
+    (λ c κs. search needs)
     slice-aggregate-keep
-    keep-requires
+    (λ c κs. search needs)
     returns-2
     array-share-prefix-bytes
     slice-aggregate-answer-line
-    answer-line-requires
-    nothing-held-requires
+    (λ c κs. search needs)
+    (λ c κs. search needs)
     add-t20
-    same-length-2
+    (λ c. search needs)
     returns-3)

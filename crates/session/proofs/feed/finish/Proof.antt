@@ -30,12 +30,6 @@ array-share-prefix-bytes c = within (c .before .before .before .before .before)
 slice-aggregate-answer-line : tie.Need-slice-aggregate-answer-line
 slice-aggregate-answer-line c = sym (held-long (c .before .before .before .before .before .before))
 
-answer-line-requires : tie.Need-answer-line-requires
-answer-line-requires c κs = search needs
-
-same-length : tie.Need-same-length
-same-length c = search needs
-
 returns-2 : tie.Need-returns-2
 returns-2 c =
     let start = c .before .before .before .before .before .before .before .before .before .before in
@@ -48,6 +42,6 @@ finish-spec =
     returns
     array-share-prefix-bytes
     slice-aggregate-answer-line
-    answer-line-requires
-    same-length
+    (λ c κs. search needs)
+    (λ c. search needs)
     returns-2)

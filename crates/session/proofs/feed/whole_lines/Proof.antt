@@ -14,29 +14,14 @@ use Rattle.session.proofs.cut.keep.Reads as keep-reads
 use Rattle.session.proofs.feed.nothing_held.Reads as nothing-held-reads
 use Rattle.session.proofs.run.run_lines.Reads as run-lines-reads
 
-run-lines-requires : tie.Need-run-lines-requires
-run-lines-requires c κs = search needs
-
 line-end-requires : tie.Need-line-end-requires
 line-end-requires c κs = c .before .before .before .run-lines .ensures .run .within
-
-nothing-held-requires : tie.Need-nothing-held-requires
-nothing-held-requires c κs = search needs
 
 sub-keep : tie.Need-sub-keep
 sub-keep c = c .before .before .before .before .before .before .run-lines .ensures .run .within
 
-part-keep-start : tie.Need-part-keep-start
-part-keep-start c = search needs
-
-part-keep-end : tie.Need-part-keep-end
-part-keep-end c = search needs
-
 keep-requires : tie.Need-keep-requires
 keep-requires c κs = omega (arith, c .before .nothing-held .ensures)
-
-same-length : tie.Need-same-length
-same-length c = search needs
 
 returns : tie.Need-returns
 returns c =
@@ -46,12 +31,6 @@ returns c =
     let at = ran .result .used in
     run-whole (start .args .s) block (start .args .out .now) _ (ran .result) (ran .ensures) _ (c .before .before .before .before .line-end .ensures) (c .before .before .before .if1 .taken) (c .keep .result)
     (keeps-rest (c .before .before .nothing-held .result) (c .keep .result) (drop at block) (length block - at) (c .before .before .nothing-held .ensures) (rw (length-drop at block) (omega arith)) (c .keep .ensures))
-
-nothing-held-requires-2 : tie.Need-nothing-held-requires-2
-nothing-held-requires-2 c κs = search needs
-
-same-length-2 : tie.Need-same-length-2
-same-length-2 c = search needs
 
 returns-2 : tie.Need-returns-2
 returns-2 c =
@@ -65,15 +44,15 @@ pub whole-lines-spec : {M : Type 1} → statement M
 whole-lines-spec =
     tie.close
     (tie.spec
-    run-lines-requires
+    (λ c κs. search needs)
     line-end-requires
-    nothing-held-requires
+    (λ c κs. search needs)
     sub-keep
-    part-keep-start
-    part-keep-end
+    (λ c. search needs)
+    (λ c. search needs)
     keep-requires
-    same-length
+    (λ c. search needs)
     returns
-    nothing-held-requires-2
-    same-length-2
+    (λ c κs. search needs)
+    (λ c. search needs)
     returns-2)

@@ -23,12 +23,6 @@ byte c = search needs
 digits : (c : tie.Start) → length (decimal (c .args .number)) ≤ 3
 digits c = decimal-short 3 (c .args .number) (omega arith) (omega (arith, byte c))
 
-slice-aggregate-put-text : tie.Need-slice-aggregate-put-text
-slice-aggregate-put-text c = search needs
-
-put-text-requires : tie.Need-put-text-requires
-put-text-requires c κs = search needs
-
 put-decimal-requires : tie.Need-put-decimal-requires
 put-decimal-requires c κs =
     let start = c .before .before .before .before .before .before .before in
@@ -40,9 +34,6 @@ put-byte-requires c κs =
     rw (c .before .before .before .put-decimal .ensures .bytes, length-over, c .before .before .before .before .before .before .before .put-text .ensures .bytes, length-over)
     (omega (arith, c .before .before .before .before .before .before .before .put-text .ensures .place, c .before .before .before .put-decimal .ensures .place, digits start, start .pre))
 
-same-length : tie.Need-same-length
-same-length c = search needs
-
 returns : tie.Need-returns
 returns c =
     let start = c .before .before .before .before .before .before .before .before .before .before .before .before .before .before in
@@ -53,9 +44,9 @@ pub put-refusal-spec : {M : Type 1} → statement M
 put-refusal-spec =
     tie.close
     (tie.spec
-    slice-aggregate-put-text
-    put-text-requires
+    (λ c. search needs)
+    (λ c κs. search needs)
     put-decimal-requires
     put-byte-requires
-    same-length
+    (λ c. search needs)
     returns)

@@ -58,23 +58,11 @@ inside : (c : tie.Else1 Inv-loop μ-loop) → c .before .line-end .result < leng
 inside c =
     omega (arith, end-inside _ _ _ (c .before .before .before .loop .inv .within) (c .before .line-end .ensures), c .if1 .left)
 
-sub-line : tie.Need-sub-line Inv-loop μ-loop
-sub-line c = search needs
-
-part-line-start : tie.Need-part-line-start Inv-loop μ-loop
-part-line-start c = search needs
-
 part-line-end : tie.Need-part-line-end Inv-loop μ-loop
 part-line-end c = omega (arith, inside c)
 
 sub-decide : tie.Need-sub-decide Inv-loop μ-loop
 sub-decide c = omega (arith, c .before .before .before .before .loop .inv .room, c .before .before .before .before .loop .inv .long)
-
-part-decide-start : tie.Need-part-decide-start Inv-loop μ-loop
-part-decide-start c = search needs
-
-part-decide-end : tie.Need-part-decide-end Inv-loop μ-loop
-part-decide-end c = search needs
 
 decide-requires : tie.Need-decide-requires Inv-loop μ-loop
 decide-requires c κs = fine-volatile _ (c .before .before .before .before .before .loop .inv .fine)
@@ -83,12 +71,6 @@ sub-say : tie.Need-sub-say Inv-loop μ-loop
 sub-say c =
     let l = c .before .before .before .before .before .before .before .before .before .loop in
     omega (arith, c .before .before .out .given .1, l .inv .room, l .inv .long)
-
-part-say-start : tie.Need-part-say-start Inv-loop μ-loop
-part-say-start c = search needs
-
-part-say-end : tie.Need-part-say-end Inv-loop μ-loop
-part-say-end c = search needs
 
 say-requires : tie.Need-say-requires Inv-loop μ-loop
 say-requires c κs =
@@ -138,9 +120,6 @@ less c =
 
 -- ---- what was decided is done
 
-enum-told : tie.Need-enum-told Inv-loop μ-loop
-enum-told c = search needs
-
 loop-less : tie.Need-loop-less Inv-loop μ-loop
 loop-less c = less (c .before .before)
 
@@ -150,9 +129,6 @@ loop-again c =
     let t = said (c .before .before) in
     t .next _ (rw (c .enum-told .given .1) refl) (t .volatile) (t .permanent)
 
-enum-known-deed : tie.Need-enum-known-deed Inv-loop μ-loop
-enum-known-deed c = search needs
-
 loop-less-2 : tie.Need-loop-less-2 Inv-loop μ-loop
 loop-less-2 c = less (c .before .before .before)
 
@@ -161,9 +137,6 @@ unfolding done
 loop-again-2 c =
     let t = said (c .before .before .before) in
     t .next _ (rw (c .before .deed .given .1) refl) (t .volatile) (t .permanent)
-
-enum-known-deed-2 : tie.Need-enum-known-deed-2 Inv-loop μ-loop
-enum-known-deed-2 c = search needs
 
 put-at-requires : tie.Need-put-at-requires Inv-loop μ-loop
 unfolding Fits
@@ -178,9 +151,6 @@ loop-again-3 c =
     let t = said (c .before .before .before .before) in
     t .next _ (rw (c .before .before .deed2 .given .1, ← c .put-at .ensures .0) refl) (c .put-at .ensures .1 (t .volatile) (t .doable .named)) (t .permanent)
 
-enum-known-deed-3 : tie.Need-enum-known-deed-3 Inv-loop μ-loop
-enum-known-deed-3 c = search needs
-
 removed-at-requires : tie.Need-removed-at-requires Inv-loop μ-loop
 unfolding Fits
 removed-at-requires c κs = rw (c .before .deed3 .given .1) at (said (c .before .before .before) .doable .fits)
@@ -194,9 +164,6 @@ loop-again-4 c =
     let t = said (c .before .before .before .before) in
     t .next _ (rw (c .before .before .deed3 .given .1, ← c .removed-at .ensures .0) refl) (c .removed-at .ensures .1 (t .volatile)) (t .permanent)
 
-enum-known-deed-4 : tie.Need-enum-known-deed-4 Inv-loop μ-loop
-enum-known-deed-4 c = search needs
-
 loop-less-5 : tie.Need-loop-less-5 Inv-loop μ-loop
 loop-less-5 c = less (c .before .before .before)
 
@@ -205,9 +172,6 @@ unfolding done memoryShaped
 loop-again-5 c =
     let t = said (c .before .before .before) in
     t .next _ (rw (c .before .deed4 .given .1) refl) (t .volatile) (t .permanent)
-
-enum-known-deed-5 : tie.Need-enum-known-deed-5 Inv-loop μ-loop
-enum-known-deed-5 c = search needs
 
 loop-less-6 : tie.Need-loop-less-6 Inv-loop μ-loop
 loop-less-6 c = less (c .before .before .before)
@@ -218,9 +182,6 @@ loop-again-6 c =
     let t = said (c .before .before .before) in
     t .next _ (rw (c .before .deed5 .given .1) refl) (t .volatile) (t .permanent)
 
-enum-told-2 : tie.Need-enum-told-2 Inv-loop μ-loop
-enum-told-2 c = search needs
-
 loop-less-7 : tie.Need-loop-less-7 Inv-loop μ-loop
 loop-less-7 c = less (c .before .before)
 
@@ -230,9 +191,6 @@ loop-again-7 c =
     let t = said (c .before .before) in
     t .next _ (rw (c .enum-told2 .given .1) refl) (t .volatile) (t .volatile)
 
-enum-told-3 : tie.Need-enum-told-3 Inv-loop μ-loop
-enum-told-3 c = search needs
-
 loop-less-8 : tie.Need-loop-less-8 Inv-loop μ-loop
 loop-less-8 c = less (c .before .before)
 
@@ -241,12 +199,6 @@ unfolding done
 loop-again-8 c =
     let t = said (c .before .before) in
     t .next _ (rw (c .enum-told3 .given .1) refl) (t .permanent) (t .permanent)
-
-enum-told-4 : tie.Need-enum-told-4 Inv-loop μ-loop
-enum-told-4 c = search needs
-
-factory-memory-requires : tie.Need-factory-memory-requires Inv-loop μ-loop
-factory-memory-requires c κs = search needs
 
 loop-less-9 : tie.Need-loop-less-9 Inv-loop μ-loop
 loop-less-9 c = less (c .before .before .before)
@@ -258,9 +210,6 @@ loop-again-9 c =
     t .next _ (rw (c .before .enum-told4 .given .1, ← c .factory-memory .ensures .0) refl) (c .factory-memory .ensures .1) (t .permanent)
 
 -- ---- the end
-
-joined-requires : tie.Need-joined-requires Inv-loop μ-loop
-joined-requires c κs = search needs
 
 same-length : tie.Need-same-length Inv-loop μ-loop
 same-length c = c .before .before .loop .inv .long
@@ -281,49 +230,49 @@ run-lines-spec =
     loop-holds
     sub-loop
     line-end-requires
-    sub-line
-    part-line-start
+    (λ c. search needs)
+    (λ c. search needs)
     part-line-end
     sub-decide
-    part-decide-start
-    part-decide-end
+    (λ c. search needs)
+    (λ c. search needs)
     decide-requires
     sub-say
-    part-say-start
-    part-say-end
+    (λ c. search needs)
+    (λ c. search needs)
     say-requires
     add-written
     add-used
-    enum-told
+    (λ c. search needs)
     loop-less
     loop-again
-    enum-known-deed
+    (λ c. search needs)
     loop-less-2
     loop-again-2
-    enum-known-deed-2
+    (λ c. search needs)
     put-at-requires
     loop-less-3
     loop-again-3
-    enum-known-deed-3
+    (λ c. search needs)
     removed-at-requires
     loop-less-4
     loop-again-4
-    enum-known-deed-4
+    (λ c. search needs)
     loop-less-5
     loop-again-5
-    enum-known-deed-5
+    (λ c. search needs)
     loop-less-6
     loop-again-6
-    enum-told-2
+    (λ c. search needs)
     loop-less-7
     loop-again-7
-    enum-told-3
+    (λ c. search needs)
     loop-less-8
     loop-again-8
-    enum-told-4
-    factory-memory-requires
+    (λ c. search needs)
+    (λ c κs. search needs)
     loop-less-9
     loop-again-9
-    joined-requires
+    (λ c κs. search needs)
     same-length
     returns)

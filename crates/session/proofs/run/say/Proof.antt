@@ -10,14 +10,8 @@ use Rattle.session.proofs.run.put_refusal.Reads as put-refusal-reads
 returns : tie.Need-returns
 returns c = record { taken = λ z. (refl, refl); refused = λ z. absurd (z (c .if1 .taken)) }
 
-put-refusal-requires : tie.Need-put-refusal-requires
-put-refusal-requires c κs = search needs
-
-same-length : tie.Need-same-length
-same-length c = search needs
-
 returns-2 : tie.Need-returns-2
 returns-2 c = record { taken = λ z. absurd (c .before .before .before .before .if1 .left z); refused = λ z. c .before .before .put-refusal .ensures }
 
 pub say-spec : {M : Type 1} → statement M
-say-spec = tie.close (tie.spec returns put-refusal-requires same-length returns-2)
+say-spec = tie.close (tie.spec returns (λ c κs. search needs) (λ c. search needs) returns-2)
