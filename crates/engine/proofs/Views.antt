@@ -6,22 +6,15 @@ use mathlib.Core.Bool.{true, false, _&&_}
 use mathlib.Core.Logic.{⊎-elim}
 use Rattle.model.specs.declared.State.{State as StoredState}
 use Rattle.model.specs.WellFormed.{wellFormed}
-use Rattle.model.specs.Stored.{FineState, FineMemory, holds, shapeless, ofOutcome, ofBegun, shaped, stateOf, viewOf, lineAnswer, imageAnswer, restartAnswer}
+use Rattle.model.specs.Stored.{FineState, FineMemory, ofOutcome, ofBegun, shaped, stateOf, viewOf, lineAnswer, imageAnswer, restartAnswer}
 use Rattle.model.proofs.Basics.{and-split, either}
+use Rattle.model.proofs.Views.{view-holds, view-shapeless}
 use Rattle.model.proofs.Memories.Fine.{state-of}
 use Rattle.model.proofs.Ladder.Refusing.{step-ill}
 use Rattle.memory.proofs.Shape.{shape-parts}
 use Rattle.model.proofs.Ladder.Exact.{other-numbers-exact}
 use Rattle.engine.specs.declared.answer.Stepped.{Stepped}
 use Rattle.engine.specs.Answers.{answeredOf}
-
-pub view-holds : (s : StoredState) → shaped s ≡ true → viewOf s ≡ holds (stateOf s)
-unfolding viewOf
-view-holds s e = rw (e, viewOf)
-
-pub view-shapeless : (s : StoredState) → shaped s ≡ false → viewOf s ≡ shapeless s
-unfolding viewOf
-view-shapeless s e = rw (e, viewOf)
 
 pub fine-of : (s : StoredState) → shaped s && wellFormed (stateOf s) ≡ true → FineState s
 fine-of s e = let p = and-split (shaped s) (wellFormed (stateOf s)) e in record { shape = p .0; formed = p .1 }

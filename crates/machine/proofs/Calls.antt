@@ -16,7 +16,7 @@ use Rattle.image.specs.declared.ImageRead.{ImageRead}
 use Rattle.image.specs.Accepted.{Answers}
 use Rattle.machine.specs.Calls.{startedWith, begunOf}
 use Rattle.memory.proofs.Shape.{shape-both, shape-parts}
-use Rattle.engine.proofs.Views.{view-holds}
+use Rattle.model.proofs.Views.{view-holds}
 
 module _ (s : StoredState) (f : FineState s) where
   pub line-fine : (l b : List ℕ) → lineAnswer (viewOf s) l b ≡ ofOutcome (stepped (stateOf s) l b)

@@ -23,27 +23,12 @@ use Rattle.model.proofs.Basics.{either}
 use Rattle.model.proofs.Histories.Kept.{well-formed-kept}
 use Rattle.engine.specs.declared.answer.Stepped.{Stepped}
 use Rattle.engine.specs.Answers.{answeredOf}
-use Rattle.engine.proofs.Views.{view-holds, view-shapeless}
+use Rattle.model.proofs.Views.{view-is}
 use Rattle.reply.specs.Lines.{Replied}
 use Rattle.session.specs.Feed.{lent, said, outcome}
 use Rattle.session.specs.Blocks.{refusalText, Says, Answers}
 use Rattle.session.proofs.Buffer.{Seen, seen, any-buffer, Writes, taken-writes, turned-down}
 use Rattle.session.proofs.Whole.{lent-long}
-
--- ---- what a stored state stands for, from its view
-
-holds-is : (a b : State) → holds a ≡ holds b → a ≡ b
-holds-is a b e = cc
-
-never : {A : Type 0} (s : StoredState) (st : State) → shapeless s ≡ holds st → A
-never s st e = let z : _≡_ {A = ℕ} 0 1 = cc in absurd (omega arith)
-
-pub view-is : (s : StoredState) (st : State) → viewOf s ≡ holds st → (shaped s ≡ true) × (stateOf s ≡ st)
-view-is s st e =
-    ⊎-elim
-    (λ h. (h, holds-is (stateOf s) st (sym (view-holds s h) ∙ e)))
-    (λ h. never s st (sym (view-shapeless s h) ∙ e))
-    (either (shaped s))
 
 -- ---- lengths
 

@@ -3,21 +3,16 @@ use Prim.Native.Nat.{ℕ, _+_, _-_, _≤_}
 use mathlib.Core.Path.{_≡_, refl, sym, ap, _∙_}
 use mathlib.Core.List.{List, [], _++_, append-assoc, append-nil}
 use native.Mathlib.Omega.{arith}
-use lib.ListN.{length, take, drop, length-append, length-take, length-drop, drop-of-length-le}
+use lib.ListN.{length, take, drop, length-append, length-drop, drop-of-length-le}
 use lib.Seq.{drop-drop, drop-at, take-all, take-append-seam, drop-append-seam, length-take-le}
 use borrow.Rule.Slice.PartMut.{putMid, take-put}
 use Rattle.model.specs.Machine.{written}
 use Rattle.reply.specs.Lines.{Replied}
+use Rattle.lines.proofs.Places.{rest}
 
--- what is lent of a buffer from place w on, and the buffer once y is put back there
-abbrev pub rest : List ℕ → ℕ → List ℕ
-rest out w = take (length out - w) (drop w out)
-
+-- the buffer once y is put back at place w, from which on it was lent
 abbrev pub withRest : List ℕ → ℕ → List ℕ → List ℕ
 withRest out w y = putMid w (length out - w) out y
-
-pub rest-long : (out : List ℕ) (w : ℕ) → length (rest out w) ≡ length out - w
-rest-long out w = rw (length-take (length out - w) (drop w out), length-drop w out) (omega arith)
 
 rest-is : (out : List ℕ) (w : ℕ) → rest out w ≡ drop w out
 rest-is out w = take-all (length out - w) (drop w out) (rw (length-drop w out) (omega arith))

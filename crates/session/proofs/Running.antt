@@ -1,26 +1,27 @@
 -- A block on the way: what was answered up to a place, one line more, and where it stops.
-use Prim.Native.Nat.{ℕ, suc, _+_, _-_, _≤_, _<_}
+use Prim.Native.Nat.{ℕ, _+_, _-_, _≤_, _<_}
 use mathlib.Core.Path.{_≡_, refl, sym, ap, _∙_}
-use mathlib.Core.List.{List, [], _∷_, _++_, append-nil}
+use mathlib.Core.List.{List, [], _∷_, _++_}
 use native.Mathlib.Omega.{arith}
 use native.Mathlib.Decide.{decLt}
-use lib.ListN.{length, take, drop, length-take, length-drop}
-use lib.Seq.{take-all, take-add}
+use lib.ListN.{length, take, drop, length-take}
+use lib.Seq.{take-all}
 use Rattle.model.specs.declared.State.{State as StoredState}
 use Rattle.model.specs.Limits.{bufferLimit}
 use Rattle.model.specs.Memory.{State}
 use Rattle.model.specs.Stored.{FineState, stateOf}
 use Rattle.lines.specs.Before.{before}
 use Rattle.session.specs.declared.cut.Kept.{Kept}
-use Rattle.lines.specs.Feed.{holding, printing}
-use Rattle.lines.proofs.Feeding.{begun, fed-nothing, fed-append, fed-ended, fed-held}
+use Rattle.lines.specs.Feed.{holding}
+use Rattle.lines.proofs.Feeding.{fed-nothing}
 use Rattle.session.specs.Feed.{Fed, answering, fed, ended, said, outcome, enough, Keeps}
 use Rattle.session.specs.Blocks.{Answers, Run, Runs, Feeds, Ends, heldOf}
 use Rattle.session.specs.declared.feed.Session.{Session}
 use Rattle.session.specs.declared.run.Ran.{Ran}
 use Rattle.model.specs.Lists.{none?}
-use Rattle.session.proofs.Rest.{rest, withRest, rest-long, written-long, replied-more}
-use Rattle.session.proofs.Whole.{said-clipped, state-clipped}
+use Rattle.session.proofs.Rest.{withRest, written-long, replied-more}
+use Rattle.lines.proofs.Places.{lineAt, fed-turn, fed-rest, fed-first, fed-on, rest, rest-long}
+use Rattle.session.proofs.Whole.{clips}
 
 -- ---- the run over a block
 
@@ -36,28 +37,12 @@ run-start s block out f =
       long = refl;
     }
 
--- what was fed up to a place, and on from there
-more : (st₀ : State) (block : List ℕ) (at n : ℕ) (st : State) → at ≤ length block → fed st₀ [] (take at block) .held ≡ holding st [] →
-    fed st₀ [] (take (at + n) block) ≡ printing (fed st₀ [] (take at block) .output) (fed st [] (take n (drop at block)))
-more st₀ block at n st h e =
-    ap (fed st₀ []) (take-add at n block) ∙ fed-append answering (take at block) st₀ [] (take n (drop at block)) ∙ rw e refl
-
--- the line from a place on
-abbrev pub lineAt : List ℕ → ℕ → List ℕ
-lineAt block at = take (before (drop at block)) (drop at block)
-
 module _ (st₀ : State) (block out₀ out : List ℕ) (s : StoredState) (at w : ℕ) (run : Run st₀ block out₀ out s at w) where
   -- a line ends at end: what is fed then
   turned : (end : ℕ) → end ≡ at + before (drop at block) → end < length block →
       fed st₀ [] (take (end + 1) block)
       ≡ record { held = holding (outcome (stateOf s) (lineAt block at) .state) []; output = fed st₀ [] (take at block) .output ++ said (stateOf s) (lineAt block at) }
-  turned end e h =
-      let n = before (drop at block) in
-      let st = stateOf s in
-      let place : end + 1 ≡ at + suc n = omega arith in
-      ap (λ (k : ℕ). fed st₀ [] (take k block)) place
-      ∙ more st₀ block at (suc n) st (run .within) (run .held)
-      ∙ ap (printing (fed st₀ [] (take at block) .output)) (fed-ended answering (drop at block) st [] (rw (length-drop at block) (omega arith)) ∙ rw (said-clipped st (lineAt block at), state-clipped st (lineAt block at)) refl)
+  turned end e h = fed-turn answering st₀ [] block at (stateOf s) (run .held) end e clips h
 
   -- a line is answered
   pub run-turn : (end : ℕ) → end ≡ at + before (drop at block) → end < length block → (line y : List ℕ) (next : StoredState) (n : ℕ) → line ≡ lineAt block at →
@@ -104,15 +89,11 @@ module _ (s₀ : StoredState) (block out₀ out : List ℕ) (r : Ran) (runs : Ru
       let st = stateOf (r .state) in
       let at = r .used in
       let run = runs .run in
-      let long : length (drop at block) ≡ length block - at = length-drop at block in
-      let f : fed st₀ [] (take end block) ≡ printing (fed st₀ [] (take at block) .output) (record { held = holding st (take enough (drop at block)); output = [] }) =
-      ap (λ (j : ℕ). fed st₀ [] (take j block)) e
-      ∙ more st₀ block at (before (drop at block)) st (run .within) (run .held)
-      ∙ ap (printing (fed st₀ [] (take at block) .output)) (ap (fed st []) (take-all (before (drop at block)) (drop at block) (omega arith)) ∙ fed-held answering (drop at block) st [] (omega arith)) in
+      let f = fed-rest answering st₀ [] block at st (run .held) end e (run .within) h in
       record {
         within = omega arith;
         moves = λ m. omega arith;
-        puts = rw (f, append-nil (fed st₀ [] (take at block) .output)) (run .puts);
+        puts = rw f (run .puts);
         room = run .room;
         held = rw (f, keeps .bytes) refl;
         few = keeps .count;
@@ -166,12 +147,7 @@ held-ends s block b d end k next n nothing few e h keeps a none =
     let st = stateOf (s .state) in
     let l = heldOf s .line in
     let short : length l ≤ enough = rw (length-take (s .held .count) (s .held .bytes)) (omega arith) in
-    let place : end ≡ before block = omega arith in
-    let after : end + 1 ≡ suc (before block) = omega arith in
-    let clip : take enough l ≡ l = take-all enough l short in
-    let f : fed st l (take (end + 1) block) ≡ record { held = holding (outcome st (take enough (l ++ take end block)) .state) []; output = said st (take enough (l ++ take end block)) } =
-    ap (λ (j : ℕ). fed st l (take j block)) after ∙ ap (λ (t : List ℕ). fed st t (take (suc (before block)) block)) (sym clip) ∙ fed-ended answering block st l (omega arith)
-    ∙ ap (λ (j : ℕ). begun answering (outcome st (take enough (l ++ take j block)) .state) (said st (take enough (l ++ take j block)))) (sym place) in
+    let f = fed-first answering st l block short end e h in
     record {
       within = omega arith;
       moves = λ m. omega arith;
@@ -190,16 +166,13 @@ held-on s block b end k fine few e h keeps =
     let st = stateOf (s .state) in
     let l = heldOf s .line in
     let short : length l ≤ enough = rw (length-take (s .held .count) (s .held .bytes)) (omega arith) in
-    let all : take end block ≡ block = take-all end block (omega arith) in
-    let clip : take enough l ≡ l = take-all enough l short in
-    let f : fed st l (take end block) ≡ record { held = holding st (take enough (l ++ block)); output = [] } =
-    ap (fed st l) all ∙ ap (λ (t : List ℕ). fed st t block) (sym clip) ∙ fed-held answering block st l (omega arith) in
+    let f = fed-on answering st l block short end e h in
     record {
       within = omega arith;
       moves = λ m. omega arith;
       puts = rw f (record { count-is = refl; bytes = refl });
       room = omega arith;
-      held = rw (f, keeps .bytes, all) refl;
+      held = rw (f, keeps .bytes) refl;
       few = keeps .count;
       fine = fine;
     }

@@ -17,9 +17,10 @@ use Rattle.engine.specs.Taken.{Takes, takenOf}
 use Rattle.memory.proofs.Shape.{shape-both, shape-parts}
 use Rattle.lines.specs.Before.{before}
 use Rattle.session.specs.Blocks.{Says, Run}
-use Rattle.session.proofs.Rest.{rest, withRest, rest-long, rest-again, put-again}
+use Rattle.session.proofs.Rest.{withRest, rest-again, put-again}
+use Rattle.lines.proofs.Places.{lineAt, rest, rest-long}
 use Rattle.session.proofs.Answering.{says-room, answers}
-use Rattle.session.proofs.Running.{lineAt, run-turn}
+use Rattle.session.proofs.Running.{run-turn}
 
 -- a line's answer is said, and what was decided is still to be done: whatever stored state has it done goes on with the run
 pub record Turned (st₀ : State) (block out₀ out : List ℕ) (s : StoredState) (d : Decision) (used w : ℕ) : Type 0 where

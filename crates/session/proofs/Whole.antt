@@ -22,13 +22,7 @@ lent-long = rw (length-replicate {A = ℕ} bufferLimit 0) (omega arith)
 
 -- ---- of a line that is too long, one byte too many tells all
 
-pub said-clipped : (st : State) (p : List ℕ) → said st (take enough p) ≡ printed (stepped st p lent)
-said-clipped st p = ap (λ (s : Seen). s .text) (clipped st p lent lent-long)
-
-pub state-clipped : (st : State) (p : List ℕ) → outcome st (take enough p) .state ≡ stepped st p lent .state
-state-clipped st p = ap (λ (s : Seen). s .state) (clipped st p lent lent-long)
-
-clips : Clips answering
+pub clips : Clips answering
 clips st p = ap {B = Answer State} (λ (s : Seen). record { state = s .state; text = s .text }) (clipped st p lent lent-long)
 
 -- ---- the buffer that is lent again does not show

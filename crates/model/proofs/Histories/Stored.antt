@@ -4,7 +4,6 @@ use mathlib.Core.Path.{_≡_, refl, sym, ap, _∙_}
 use mathlib.Core.List.{List, [], _∷_, _++_, map}
 use mathlib.Core.Bool.{Bool, true, false, not, _&&_}
 use mathlib.Core.Option.{some}
-use native.Mathlib.Omega.{arith}
 use lib.Dec.{eqb}
 use lib.ListN.{length, take, drop}
 use lib.Seq.{take-append-seam}
@@ -17,26 +16,18 @@ use Rattle.model.specs.Reply.{listing, everySystem, resultantLine}
 use Rattle.model.specs.Machine.{Outcome, answered, stepped, restart, startFactory, startImage}
 use Rattle.model.specs.Trace.{Call, Line, line, again, called, afterCalls, afterLines}
 use Rattle.model.specs.Demand.{Start, factory-start, image-start, startState, asksToEnable, noneTaken, steady, Replies}
-use Rattle.model.specs.Stored.{View, shapeless, holds, stateOf, shaped, viewOf, Answered, Restarted, ofOutcome, lineAnswer, restartAnswer}
+use Rattle.model.specs.Stored.{holds, stateOf, viewOf, Answered, Restarted, ofOutcome, lineAnswer, restartAnswer}
 use Rattle.model.specs.Histories.{Returned, ReturnedAlone, standsFor, LinePromise, RestartPromise, Begins, at-factory, at-image, Calls, Lines, steadyBy, Stands, KltPrints, StoredAfterBoth, StoredDemand3, StoredChecklist}
 use Rattle.model.specs.Histories as stored
 use Rattle.model.proofs.Histories.Demand3.{demand-3}
 use Rattle.model.proofs.Histories.Checklist.{checklist}
 use Rattle.model.proofs.Basics.{and-split, and-join}
+use Rattle.model.proofs.Views.{view-is}
 
 -- ---- views
 
--- a stored state whose view holds a state stands for it
-pub held-state : (s : StoredState) (st : State) → viewOf s ≡ holds st → stateOf s ≡ st
-unfolding viewOf
-held-state s st e = go (shaped s) refl
-  where
-    go : (t : Bool) → shaped s ≡ t → stateOf s ≡ st
-    go true q = let f : holds (stateOf s) ≡ holds st = rw (viewOf, q) at e in cc
-    go false q = let f : shapeless s ≡ holds st = rw (viewOf, q) at e in let z : _≡_ {A = ℕ} 0 1 = cc in absurd (omega arith)
-
 stands : (s : StoredState) (st : State) → viewOf s ≡ holds st → Stands s
-stands s st e = e ∙ ap holds (sym (held-state s st e))
+stands s st e = e ∙ ap holds (sym (view-is s st e .1))
 
 -- ---- one call
 
@@ -116,8 +107,8 @@ stored-demand-3 start first second numbers s₀ s s′ begun calls lines still =
     let h = calls-held (startState start) (begins-held begun) calls in
     let h′ = lines-held st h lines in
     let d = demand-3 start first second (lines-steady st h lines still) in
-    let e = held-state s st h in
-    let e′ = held-state s′ (afterLines st second) h′ in
+    let e = view-is s st h .1 in
+    let e′ = view-is s′ (afterLines st second) h′ .1 in
     record {
       began = stands s st h;
       ended = stands s′ (afterLines st second) h′;
@@ -128,4 +119,4 @@ stored-demand-3 start first second numbers s₀ s s′ begun calls lines still =
 pub stored-checklist : StoredChecklist
 stored-checklist start calls s₀ s begun history =
     let h = calls-held (startState start) (begins-held begun) history in
-    (stands s _ h, rw (held-state s _ h) (checklist start calls))
+    (stands s _ h, rw (view-is s _ h .1) (checklist start calls))

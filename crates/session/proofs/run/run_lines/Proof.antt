@@ -12,7 +12,8 @@ use Rattle.commands.specs.Done.{done, Fits}
 use Rattle.lines.specs.Before.{before}
 use Rattle.lines.proofs.Laws.{end-inside}
 use Rattle.session.specs.Blocks.{Run}
-use Rattle.session.proofs.Rest.{withRest, rest-long}
+use Rattle.session.proofs.Rest.{withRest}
+use Rattle.lines.proofs.Places.{rest-long}
 use Rattle.session.proofs.Running.{run-start}
 use Rattle.engine.proofs.Views.{fine-volatile}
 use Rattle.session.proofs.Turning.{Turned, turned}
