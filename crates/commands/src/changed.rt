@@ -1,4 +1,5 @@
 // What is decided of a change: the number with which it is refused, and what is to be done. The memory itself is edited by whoever holds it, in place.
+use facts::numbers::ACCEPTED;
 use memory::edit::put_at;
 use memory::edit::removed_at;
 use memory::factory::blank_system;
@@ -37,7 +38,7 @@ pub fn accepted(deed: Deed) -> Decision
 {
     let system = blank_system();
     Decision {
-        number: 0,
+        number: ACCEPTED,
         deed,
         system,
     }

@@ -9,6 +9,7 @@ use crate::judge::judge_enable;
 use crate::judge::judge_link;
 use crate::judge::judge_remove;
 use crate::subject::Looked;
+use facts::numbers::ACCEPTED;
 use memory::edit::fresh_system;
 use memory::edit::relinked;
 use memory::edit::renamed;
@@ -33,7 +34,7 @@ fn putting(place: u8, system: System) -> Decision
     ensures { λ r. ⌜ r ≡ record { number = 0; deed = Deed.Put place; system = system } ⌝ }
 {
     Decision {
-        number: 0,
+        number: ACCEPTED,
         deed: Deed::Put(place),
         system,
     }

@@ -24,7 +24,7 @@ pub const AXES: usize = 6;
 // The longest line, and as many bytes of a line as show that it is too long.
 pub const LINE_LIMIT: usize = 120;
 
-pub const ENOUGH: usize = 121;
+pub const ENOUGH: usize = LINE_LIMIT + 1;
 
 // The least lent buffer.
 pub const BUFFER_LIMIT: usize = 4096;
