@@ -3,7 +3,7 @@ use mathlib.Core.Path.{_≡_, refl}
 use native.Mathlib.Omega.{arith}
 use Rattle.model.specs.Machine.{startFactory}
 use Rattle.model.proofs.Histories.Kept.{well-formed-kept}
-use Rattle.session.proofs.Answering.{view-is}
+use Rattle.model.proofs.Views.{view-is}
 use borrow.Author.Needs.{needs}
 use Rattle.session.proofs.feed.begin.Statement.{statement}
 use Rattle.session.proofs.feed.begin.Tie as tie
