@@ -46,7 +46,7 @@ pub fn define(k: Looked, level: u8, kind: Kind, n: Name, offset: Vec3, turns: Tu
     ensures { λ r. ⌜ ((s : State) (y : List ℕ) → s .level ≡ level → Sees (s .volatile) (bytesOf n) y k → Decides s (define kind (bytesOf n) offset turns) r) ⌝ }
 {
     let number = judge_define(k, level, kind);
-    if number != 0 {
+    if number != ACCEPTED {
         return refused(number);
     }
     let x = k.first;
@@ -61,7 +61,7 @@ pub fn link(k: Looked, level: u8) -> Decision
     ensures { λ r. ⌜ ((s : State) (x y : List ℕ) → s .level ≡ level → Sees (s .volatile) x y k → Decides s (link x y) r) ⌝ }
 {
     let number = judge_link(k, level);
-    if number != 0 {
+    if number != ACCEPTED {
         return refused(number);
     }
     let x = k.first;
@@ -77,7 +77,7 @@ pub fn copy(k: Looked, level: u8, to: Name) -> Decision
     ensures { λ r. ⌜ ((s : State) (x : List ℕ) → s .level ≡ level → Sees (s .volatile) x (bytesOf to) k → Decides s (copy x (bytesOf to)) r) ⌝ }
 {
     let number = judge_copy(k, level);
-    if number != 0 {
+    if number != ACCEPTED {
         return refused(number);
     }
     let y = k.second;
@@ -92,7 +92,7 @@ pub fn remove(k: Looked, level: u8) -> Decision
     ensures { λ r. ⌜ ((s : State) (x y : List ℕ) → s .level ≡ level → Sees (s .volatile) x y k → Decides s (remove x) r) ⌝ }
 {
     let number = judge_remove(k, level);
-    if number != 0 {
+    if number != ACCEPTED {
         return refused(number);
     }
     let x = k.first;
@@ -104,7 +104,7 @@ pub fn enable(k: Looked, level: u8) -> Decision
     ensures { λ r. ⌜ ((s : State) (x y : List ℕ) → s .level ≡ level → Sees (s .volatile) x y k → Decides s (enable x) r) ⌝ }
 {
     let number = judge_enable(k, level);
-    if number != 0 {
+    if number != ACCEPTED {
         return refused(number);
     }
     let x = k.first;

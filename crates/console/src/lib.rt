@@ -1,4 +1,7 @@
 // ksrun at a terminal or in a pipe: every complete line is answered before more input is waited for.
+use libc::STDERR_FILENO;
+use libc::STDIN_FILENO;
+use libc::STDOUT_FILENO;
 use session::feed::Session;
 use session::feed::begin;
 use session::feed::feed;
@@ -11,12 +14,6 @@ ghost use Rattle.session.specs.Feed.{ended};
 ghost use Rattle.session.specs.Blocks.{heldOf};
 ghost use Rattle.console.specs.Serve.{given, Between, Serves};
 
-const INPUT: i32 = 0;
-
-const OUTPUT: i32 = 1;
-
-const ERRORS: i32 = 2;
-
 // What a block left: the session, and whether its answers could be written.
 struct Served {
     session: Session,
@@ -27,18 +24,18 @@ struct Served {
 fn write_answers(s: Session, part: &[u8], answers: &[u8]) -> bool
     requires { ⌜ now answers ≡ given s (now part) .output ⌝ }
 {
-    io::write_all(OUTPUT, answers)
+    io::write_all(STDOUT_FILENO, answers)
 }
 
 // The same for the end of the input, where what is held is a line.
 fn write_last(s: Session, answers: &[u8]) -> bool
     requires { ⌜ now answers ≡ ended (heldOf s) ⌝ }
 {
-    io::write_all(OUTPUT, answers)
+    io::write_all(STDOUT_FILENO, answers)
 }
 
 fn complain_of_output() {
-    io::write_all(ERRORS, b"ksrun: standard output cannot be written\n");
+    io::write_all(STDERR_FILENO, b"ksrun: standard output cannot be written\n");
 }
 
 // A block is fed until all of it is used; the answers are written as the buffer fills, and at the end.
@@ -67,11 +64,11 @@ pub fn run() {
     let mut input = io::large_buffer();
     let mut output = io::large_buffer();
     let mut session = begin();
-    let mut turns: u64 = 18446744073709551615;
+    let mut turns: u64 = u64::MAX;
     while 0 < turns {
-        let got = libc::read(INPUT, &mut input);
+        let got = libc::read(STDIN_FILENO, &mut input);
         if got < 0 {
-            io::write_all(ERRORS, b"ksrun: standard input cannot be read\n");
+            io::write_all(STDERR_FILENO, b"ksrun: standard input cannot be read\n");
             return;
         }
         let n = io::count(got, &input);

@@ -7,6 +7,7 @@ use commands::changed::accepted;
 use commands::changed::refused;
 use commands::subject::Subject;
 use facts::numbers::ABSENT;
+use facts::numbers::ACCEPTED;
 use memory::find::Found;
 use model::Group;
 use model::Memory;
@@ -96,6 +97,6 @@ pub fn error_line(error: u8, reply: &mut [u8]) -> Step
     ensures { λ r. ⌜ ((s : State) → s .error ≡ error → Takes s (obeyed (stateOf s) (asks lastError) (now (reply .entry))) r (now (reply .exit))) ⌝ }
 {
     let length = reply::last_error(error, reply);
-    let decision = accepted(Deed::SetError(0));
+    let decision = accepted(Deed::SetError(ACCEPTED));
     Step { decision, length }
 }

@@ -51,5 +51,16 @@ pub const NO_IMAGE: u8 = 14;
 pub fn of_line(n: u8) -> bool
     ensures { λ r. ⌜ r ≡ ofLine? n ⌝ }
 {
-    (SHORT <= n) & (n <= FULL)
+    (n == SHORT)
+        | (n == UNREADABLE)
+        | (n == UNKNOWN)
+        | (n == MALFORMED)
+        | (n == BEYOND)
+        | (n == ABSENT)
+        | (n == RESERVED)
+        | (n == LOCKED)
+        | (n == OTHER_TYPE)
+        | (n == IN_USE)
+        | (n == RING)
+        | (n == FULL)
 }

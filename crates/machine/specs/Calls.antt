@@ -1,12 +1,16 @@
 -- What the calls' values stand for.
 use Rattle.model.specs.declared.Memory.{Memory}
 use Rattle.model.specs.declared.State.{State}
-use Rattle.model.specs.Stored.{Restarted, viewOf}
+use Rattle.model.specs.Stored.{Restarted}
+use Rattle.model.specs.Histories.{ReturnedAlone, standsAlone}
 use Rattle.machine.specs.declared.Begun.{Begun}
 
--- an answer without a lent buffer
+-- what a call without a lent buffer returned
+abbrev pub returnedAlone : Begun → ReturnedAlone
+returnedAlone r = record { state = r .state; number = r .number }
+
 abbrev pub begunOf : Begun → Restarted
-begunOf r = record { state = viewOf (r .state); number = r .number }
+begunOf r = standsAlone (returnedAlone r)
 
 -- [Memory 4; Image] both memories are m, level 0, no error
 abbrev pub startedWith : Memory → State

@@ -1,4 +1,5 @@
-// The machine's public calls. None asks anything of its caller: a state that is not well formed comes back as it is, with 1.
+// The machine's public calls. None asks anything of its caller: a state that is not well formed comes back as it is, with 1. What each promises, an equation
+// for all that it returns and the whole lent buffer, is what a history of stored states knows of it (Histories.antt of model).
 use engine::answer::Stepped;
 use facts::limits::BUFFER_LIMIT;
 use facts::numbers::ACCEPTED;
@@ -10,10 +11,11 @@ use memory::fine::state_fine;
 use model::Memory;
 use model::State;
 ghost use mathlib.Core.Path.{_≡_};
-ghost use Rattle.model.specs.Machine.{startFactory, startImage};
-ghost use Rattle.model.specs.Stored.{viewOf, holds, ofBegun, lineAnswer, imageAnswer, restartAnswer};
-ghost use Rattle.engine.specs.Answers.{answeredOf};
-ghost use Rattle.machine.specs.Calls.{begunOf, startedWith};
+ghost use Rattle.model.specs.Machine.{startFactory};
+ghost use Rattle.model.specs.Stored.{viewOf, holds};
+ghost use Rattle.model.specs.Histories.{LinePromise, RestartPromise, WritePromise, ImagePromise};
+ghost use Rattle.engine.specs.Answers.{returned};
+ghost use Rattle.machine.specs.Calls.{returnedAlone, startedWith};
 
 // What a call without a lent buffer gives: the next state, and the number (0: accepted).
 pub struct Begun {
@@ -41,7 +43,7 @@ pub fn start_factory() -> State
 
 // Switching off and on.
 pub fn restart(s: State) -> Begun
-    ensures { λ r. ⌜ begunOf r ≡ restartAnswer (viewOf s) ⌝ }
+    ensures { λ r. ⌜ RestartPromise s (returnedAlone r) ⌝ }
 {
     if !state_fine(s) {
         return Begun {
@@ -70,7 +72,7 @@ fn refusing(s: State, number: u8) -> Stepped
 
 // A command line, with a lent buffer for its reply.
 pub fn line(s: State, line: &[u8], reply: &mut [u8]) -> Stepped
-    ensures { λ r. ⌜ answeredOf r (now (reply .exit)) ≡ lineAnswer (viewOf s) (now (line .entry)) (now (reply .entry)) ⌝ }
+    ensures { λ r. ⌜ LinePromise s (now (line .entry)) (now (reply .entry)) (returned r (now (reply .exit))) ⌝ }
 {
     if state_fine(s) {
         return engine::line::obey(s, line, reply);
@@ -80,7 +82,7 @@ pub fn line(s: State, line: &[u8], reply: &mut [u8]) -> Stepped
 
 // The image of the permanent memory, into a lent buffer.
 pub fn write_image(s: State, out: &mut [u8]) -> Stepped
-    ensures { λ r. ⌜ answeredOf r (now (out .exit)) ≡ imageAnswer (viewOf s) (now (out .entry)) ⌝ }
+    ensures { λ r. ⌜ WritePromise s (now (out .entry)) (returned r (now (out .exit))) ⌝ }
 {
     if !state_fine(s) {
         return refusing(s, ILL_FORMED);
@@ -99,7 +101,7 @@ pub fn write_image(s: State, out: &mut [u8]) -> Stepped
 
 // A start from bytes offered as an image: the state that they give, or with 14 the factory's.
 pub fn start_image(bytes: &[u8]) -> Begun
-    ensures { λ r. ⌜ begunOf r ≡ ofBegun (startImage (now (bytes .entry))) ⌝ }
+    ensures { λ r. ⌜ ImagePromise (now (bytes .entry)) (returnedAlone r) ⌝ }
 {
     let found = image::read(bytes);
     let m = found.memory;

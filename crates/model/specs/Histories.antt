@@ -15,7 +15,7 @@ use Rattle.model.specs.Machine.{startFactory, startImage}
 use Rattle.model.specs.Trace.{Call, Line, line, again}
 use Rattle.model.specs.Demand.{Start, factory-start, image-start, asksToEnable, AfterBoth}
 use Rattle.model.specs.Checklist.{Checked}
-use Rattle.model.specs.Stored.{stateOf, viewOf, holds, Answered, Restarted, ofBegun, lineAnswer, restartAnswer}
+use Rattle.model.specs.Stored.{stateOf, viewOf, holds, Answered, Restarted, ofBegun, lineAnswer, imageAnswer, restartAnswer}
 
 -- ---- what a call returns, and what it promises of that
 
@@ -43,6 +43,10 @@ LinePromise s l b r = standsFor r ≡ lineAnswer (viewOf s) l b
 -- [Memory 4] the promise of a restart in s
 abbrev pub RestartPromise : StoredState → ReturnedAlone → Type 0
 RestartPromise s r = standsAlone r ≡ restartAnswer (viewOf s)
+
+-- [Image] the promise of writing the image in s, into the lent buffer b
+abbrev pub WritePromise : StoredState → List ℕ → Returned → Type 0
+WritePromise s b r = standsFor r ≡ imageAnswer (viewOf s) b
 
 -- [Image] the promise of a start from bytes
 abbrev pub ImagePromise : List ℕ → ReturnedAlone → Type 0

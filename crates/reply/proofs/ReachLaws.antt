@@ -41,11 +41,6 @@ pub ref-user : (l : List System) (g : Group) (p : ℕ) → (p ≡ 0 → ⊥) →
 ref-user l g zero h = absurd (h refl)
 ref-user l g (suc k) h = let e : suc k - 1 ≡ k = omega arith in rw e
 
--- KLT? of a name, by the system that it names
-pub resultant-named : (m : Memory) (a : List ℕ) (r : Ref) → named m a ≡ r → listed m (resultantOf a) ≡ listing (resultantLine (m .systems) r ∷ [])
-unfolding listed
-resultant-named m a r e = rw e
-
 -- ---- a well-formed memory, and its numbers laid flat
 
 pub record FlatOf (m : StoredMemory) (preds : List ℕ) (offsets : List ℤ) (turns : List ℕ) : Type 0 where

@@ -4,13 +4,15 @@ use crate::feed::Script;
 use crate::feed::begin;
 use crate::feed::feed;
 use crate::feed::finish;
+use crate::parse::LONGEST_LINE;
 use libc::STDERR_FILENO;
 use libc::STDIN_FILENO;
 use libc::STDOUT_FILENO;
 ghost use mathlib.Core.Path.{_≡_};
-ghost use Prim.Native.Nat.{_≤_};
+ghost use Prim.Native.Nat.{suc, _≤_};
 ghost use lib.ListN.{length};
 ghost use Rattle.lines.specs.Feed.{ended};
+ghost use Rattle.script.specs.Directive.{longestLine};
 ghost use Rattle.script.specs.Run.{answering, heldOf, given, Roomy, Serves};
 
 // What a block left: the script, and whether its answers could be written.
@@ -73,10 +75,10 @@ fn serve(
 }
 
 // Room for the longest line and one byte more, so that a longer one shows; the bytes that it spells, and some answers, fit too.
-fn line_buffer() -> [u8; 262145]
-    ensures { λ r. ⌜ 262145 ≡ length r ⌝ }
+fn line_buffer() -> [u8; LONGEST_LINE + 1]
+    ensures { λ r. ⌜ suc longestLine ≡ length r ⌝ }
 {
-    [0; 262145]
+    [0; LONGEST_LINE + 1]
 }
 
 // Blocks are read and served to the end of the input. A read or a write that fails ends the run, with a word on standard error. Nothing says that the

@@ -4,6 +4,7 @@ use crate::answer::put_said;
 use crate::parse::Directive;
 use crate::parse::parse;
 use engine::answer::Stepped;
+use facts::numbers::ACCEPTED;
 use machine::Begun;
 use model::State;
 ghost use Prim.Native.Nat.{_+_, _*_, _≤_};
@@ -89,7 +90,14 @@ pub fn obey(
         Directive::Image(count) => say_begun(machine::start_image(&bytes[..count]), out, at),
         Directive::Factory => {
             let state = machine::start_factory();
-            say_begun(Begun { state, number: 0 }, out, at)
+            say_begun(
+                Begun {
+                    state,
+                    number: ACCEPTED,
+                },
+                out,
+                at,
+            )
         }
         Directive::Malformed => {
             let end = put_complaint(out, at, line);

@@ -13,7 +13,7 @@ ghost use Rattle.text.specs.Cursor.{Within};
 ghost use Rattle.script.specs.Directive.{longestLine, bytesAt, lengthTold, lengthOf, Spelled, oneField, twoFields, threeFields, hexField, Understood, order, hexOf};
 
 // A longer line is no directive, and no longer buffer is lent.
-const LONGEST_LINE: usize = 262144;
+pub const LONGEST_LINE: usize = 262144;
 
 const LONGEST_LENT: usize = 65536;
 

@@ -9,8 +9,6 @@ use Rattle.session.proofs.Rest.{replied-first}
 use Rattle.console.specs.Serve.{Between}
 use Rattle.console.proofs.run.Statement.{statement}
 use Rattle.console.proofs.run.Tie as tie
-use Rattle.console.proofs.run.Reads as reads
-use Rattle.console.proofs.run.Lts as lts
 
 abbrev Inv-loop : tie.InvT-loop
 Inv-loop input₀ output₀ session₀ turns₀ t9 input output session turns =

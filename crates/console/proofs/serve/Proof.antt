@@ -13,10 +13,6 @@ use Rattle.console.specs.Serve.{given, Between}
 use Rattle.console.proofs.Serving.{given-nothing, part-handed, part-held}
 use Rattle.console.proofs.serve.Statement.{statement}
 use Rattle.console.proofs.serve.Tie as tie
-use Rattle.console.proofs.serve.Reads as reads
-use Rattle.console.proofs.serve.Lts as lts
-use Rattle.console.proofs.write_answers.Reads as write-answers-reads
-use Rattle.session.proofs.feed.feed.Reads as feed-reads
 
 abbrev Inv-loop : tie.InvT-loop
 Inv-loop block out₀ session₀ at₀ out session at =

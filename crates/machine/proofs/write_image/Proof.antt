@@ -10,10 +10,6 @@ use Rattle.machine.proofs.Calls.{image-refused, image-taken}
 use borrow.Author.Needs.{needs}
 use Rattle.machine.proofs.write_image.Statement.{statement}
 use Rattle.machine.proofs.write_image.Tie as tie
-use Rattle.machine.proofs.write_image.Reads as reads
-use Rattle.machine.proofs.write_image.Lts as lts
-use Rattle.image.proofs.write.Reads as write-reads
-use Rattle.memory.proofs.fine.state_fine.Reads as state-fine-reads
 
 returns : tie.Need-returns
 returns c =

@@ -1,3 +1,4 @@
+use Rattle.model.specs.declared.System.{System as StoredSystem}
 use Prim.Native.Nat.{ℕ, _-_, _≤_, _<_}
 use mathlib.Core.Path.{_≡_, refl, sym, subst}
 use native.Mathlib.Omega.{arith}
@@ -5,7 +6,6 @@ use borrow.Author.Needs.{needs}
 use lib.IntN.{pos}
 use mir.Syntax.{w64}
 use mir.Val.{toZ, ofZ}
-use Rattle.model.specs.declared.System.{System as StoredSystem}
 use lib.ListN.{length, getD, length-set}
 use Rattle.chains.proofs.Copies.{length-mapped, Three, three-more, unset}
 use Rattle.model.specs.Stored.{systemsOf}

@@ -1,10 +1,10 @@
+use Rattle.model.specs.declared.System.{System as StoredSystem}
 use Prim.Native.Nat.{ℕ, _-_, _≤_}
 use mathlib.Core.Path.{_≡_, refl, ap, _∙_}
 use mathlib.Core.List.{List, map}
 use native.Mathlib.Omega.{arith}
 use borrow.Author.Needs.{needs}
 use lib.ListN.{length, take, length-set}
-use Rattle.model.specs.declared.System.{System as StoredSystem}
 use Rattle.model.specs.Stored.{systemOf}
 use Rattle.chains.specs.Flat.{predsOf}
 use Rattle.model.specs.Limits.{maxSystems}

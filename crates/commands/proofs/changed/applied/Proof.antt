@@ -1,8 +1,8 @@
+use Rattle.model.specs.declared.Memory.{Memory as StoredMemory}
+use Rattle.model.specs.declared.State.{State as StoredState}
 use mathlib.Core.Path.{_≡_, refl, ap}
 use mathlib.Core.Bool.{true}
 use borrow.Author.Needs.{needs}
-use Rattle.model.specs.declared.Memory.{Memory as StoredMemory}
-use Rattle.model.specs.declared.State.{State as StoredState}
 use Rattle.model.specs.Effects.{withVolatile}
 use Rattle.model.specs.Stored.{stateOf, memoryShaped, shaped}
 use Rattle.memory.proofs.Shape.{shape-both, shape-parts}

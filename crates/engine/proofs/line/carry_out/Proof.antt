@@ -5,27 +5,6 @@ use Rattle.engine.proofs.OneLine.{named-within}
 use borrow.Author.Needs.{needs}
 use Rattle.engine.proofs.line.carry_out.Statement.{statement}
 use Rattle.engine.proofs.line.carry_out.Tie as tie
-use Rattle.engine.proofs.line.carry_out.Reads as reads
-use Rattle.engine.proofs.line.carry_out.Lts as lts
-use Rattle.commands.proofs.changed.refused.Reads as refused-reads
-use Rattle.commands.proofs.subject.look.Reads as look-reads
-use Rattle.commands.proofs.systems.copy.Reads as copy-reads
-use Rattle.commands.proofs.systems.define.Reads as define-reads
-use Rattle.commands.proofs.systems.enable.Reads as enable-reads
-use Rattle.commands.proofs.systems.link.Reads as link-reads
-use Rattle.commands.proofs.systems.remove.Reads as remove-reads
-use Rattle.commands.proofs.whole.reset.Reads as reset-reads
-use Rattle.commands.proofs.whole.restore.Reads as restore-reads
-use Rattle.commands.proofs.whole.save.Reads as save-reads
-use Rattle.commands.proofs.whole.set_level.Reads as set-level-reads
-use Rattle.engine.proofs.answer.silent.Reads as silent-reads
-use Rattle.engine.proofs.line.subject_of.Reads as subject-of-reads
-use Rattle.engine.proofs.lists.enabled_line.Reads as enabled-line-reads
-use Rattle.engine.proofs.lists.error_line.Reads as error-line-reads
-use Rattle.engine.proofs.lists.links_line.Reads as links-line-reads
-use Rattle.engine.proofs.lists.resultant_line.Reads as resultant-line-reads
-use Rattle.engine.proofs.lists.resultants_line.Reads as resultants-line-reads
-use Rattle.engine.proofs.lists.systems_line.Reads as systems-line-reads
 
 look-requires : tie.Need-look-requires
 look-requires c κs = c .before .before .before .before .before .before .pre .0 .shape

@@ -10,13 +10,6 @@ use Rattle.engine.proofs.Taking.{retold, refusal-taken}
 use borrow.Author.Needs.{needs}
 use Rattle.engine.proofs.line.decide.Statement.{statement}
 use Rattle.engine.proofs.line.decide.Tie as tie
-use Rattle.engine.proofs.line.decide.Reads as reads
-use Rattle.engine.proofs.line.decide.Lts as lts
-use Rattle.commands.proofs.changed.refused.Reads as refused-reads
-use Rattle.engine.proofs.answer.silent.Reads as silent-reads
-use Rattle.engine.proofs.line.carry_out.Reads as carry-out-reads
-use Rattle.request.proofs.printable.unreadable.Reads as unreadable-reads
-use Rattle.request.proofs.read.Reads as read-reads
 
 returns : tie.Need-returns
 unfolding short

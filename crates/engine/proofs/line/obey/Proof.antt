@@ -7,10 +7,6 @@ use Rattle.engine.proofs.Taking.{taken-answers}
 use borrow.Author.Needs.{needs}
 use Rattle.engine.proofs.line.obey.Statement.{statement}
 use Rattle.engine.proofs.line.obey.Tie as tie
-use Rattle.engine.proofs.line.obey.Reads as reads
-use Rattle.engine.proofs.line.obey.Lts as lts
-use Rattle.commands.proofs.changed.applied.Reads as applied-reads
-use Rattle.engine.proofs.line.decide.Reads as decide-reads
 
 decide-requires : tie.Need-decide-requires
 decide-requires c κs = fine-volatile _ (c .before .before .before .before .pre)

@@ -11,10 +11,6 @@ use Rattle.engine.proofs.Taking.{cleared-taken}
 use borrow.Author.Needs.{needs}
 use Rattle.engine.proofs.lists.error_line.Statement.{statement}
 use Rattle.engine.proofs.lists.error_line.Tie as tie
-use Rattle.engine.proofs.lists.error_line.Reads as reads
-use Rattle.engine.proofs.lists.error_line.Lts as lts
-use Rattle.commands.proofs.changed.accepted.Reads as accepted-reads
-use Rattle.reply.proofs.last_error.Reads as last-error-reads
 
 returns : tie.Need-returns
 returns c s e =

@@ -3,10 +3,6 @@ use Rattle.engine.proofs.Taking.{reply-taken}
 use borrow.Author.Needs.{needs}
 use Rattle.engine.proofs.lists.one_line.Statement.{statement}
 use Rattle.engine.proofs.lists.one_line.Tie as tie
-use Rattle.engine.proofs.lists.one_line.Reads as reads
-use Rattle.engine.proofs.lists.one_line.Lts as lts
-use Rattle.engine.proofs.answer.replied.Reads as replied-reads
-use Rattle.reply.proofs.resultants.resultant_at.Reads as resultant-at-reads
 
 returns : tie.Need-returns
 returns c s =

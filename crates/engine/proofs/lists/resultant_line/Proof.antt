@@ -11,11 +11,6 @@ use Rattle.engine.proofs.Taking.{retold, refusal-taken}
 use borrow.Author.Needs.{needs}
 use Rattle.engine.proofs.lists.resultant_line.Statement.{statement}
 use Rattle.engine.proofs.lists.resultant_line.Tie as tie
-use Rattle.engine.proofs.lists.resultant_line.Reads as reads
-use Rattle.engine.proofs.lists.resultant_line.Lts as lts
-use Rattle.commands.proofs.changed.refused.Reads as refused-reads
-use Rattle.engine.proofs.answer.silent.Reads as silent-reads
-use Rattle.engine.proofs.lists.one_line.Reads as one-line-reads
 
 returns : tie.Need-returns
 returns c s n e t =

@@ -5,10 +5,6 @@ use Rattle.engine.proofs.Taking.{list-taken}
 use borrow.Author.Needs.{needs}
 use Rattle.engine.proofs.lists.systems_line.Statement.{statement}
 use Rattle.engine.proofs.lists.systems_line.Tie as tie
-use Rattle.engine.proofs.lists.systems_line.Reads as reads
-use Rattle.engine.proofs.lists.systems_line.Lts as lts
-use Rattle.engine.proofs.answer.replied.Reads as replied-reads
-use Rattle.reply.proofs.systems.Reads as systems-reads
 
 returns : tie.Need-returns
 unfolding queryLadder first

@@ -1,9 +1,9 @@
 -- The two tests agree on every byte: that is computed.
 use Prim.Native.Nat.{ℕ, _<_}
 use mathlib.Core.Path.{_≡_, refl}
-use mathlib.Core.Bool.{Bool, true, false, Bool·beq, _&&_}
+use mathlib.Core.Bool.{Bool, true, false, Bool·beq, _||_}
 use native.Mathlib.Omega.{arith}
-use lib.Dec.{T, leb}
+use lib.Dec.{T, eqb}
 use Rattle.model.specs.Lists.{any}
 use Rattle.model.specs.Refusals.{ofLine?}
 use Rattle.model.proofs.Upto.{at}
@@ -16,11 +16,17 @@ alike true false t = absurd t
 alike false true t = absurd t
 alike false false t = refl
 
-tests-agree : (n : ℕ) → n < 256 → leb 2 n && leb n 13 ≡ ofLine? n
-unfolding ofLine? any
-tests-agree n h = alike (leb 2 n && leb n 13) (ofLine? n) (at 256 (λ k. Bool·beq (leb 2 k && leb k 13) (ofLine? k)) tt n h)
+-- the test of the code
+test : ℕ → Bool
+test n =
+    eqb n 2 || eqb n 3 || eqb n 4 || eqb n 5 || eqb n 6 || eqb n 7 || eqb n 8 || eqb n 9 || eqb n 10 || eqb n 11 || eqb n 12 || eqb n 13
+
+tests-agree : (n : ℕ) → n < 256 → test n ≡ ofLine? n
+unfolding test ofLine? any
+tests-agree n h = alike (test n) (ofLine? n) (at 256 (λ k. Bool·beq (test k) (ofLine? k)) tt n h)
 
 returns : tie.Need-returns
+unfolding test
 returns c = tests-agree (c .args .n) (omega arith)
 
 pub of-line-spec : {M : Type 1} → statement M

@@ -1,3 +1,4 @@
+use Rattle.model.specs.declared.System.{System as StoredSystem}
 use Prim.Native.Nat.{ℕ, _+_, _-_, _≤_, _<_}
 use mathlib.Core.Path.{_≡_, refl, sym, _∙_}
 use mathlib.Core.Bool.{true}
@@ -9,7 +10,6 @@ use borrow.Author.Tests.{not-true, not-false}
 use lib.ListN.{length, take, drop, set, length-set}
 use lib.Seq.{take-suc-set}
 use Rattle.model.specs.Limits.{maxSystems}
-use Rattle.model.specs.declared.System.{System as StoredSystem}
 use Rattle.model.specs.Lists.{all}
 use Rattle.memory.proofs.Shape.{all-more}
 use Rattle.model.specs.Stored.{systemOf, nameShaped}

@@ -1,3 +1,4 @@
+use Rattle.model.specs.declared.System.{System as StoredSystem}
 use Prim.Native.Nat.{ℕ, _+_, _-_, _≤_}
 use mathlib.Core.Path.{_≡_, refl, sym, ap, _∙_}
 use mathlib.Core.List.{List, map}
@@ -5,7 +6,6 @@ use mathlib.Core.Logic.{⊎-elim}
 use native.Mathlib.Omega.{arith}
 use borrow.Author.Needs.{needs}
 use lib.ListN.{length, take, length-set}
-use Rattle.model.specs.declared.System.{System as StoredSystem}
 use Rattle.model.specs.Limits.{maxSystems}
 use Rattle.model.specs.Stored.{bytesOf, systemOf}
 use Rattle.chains.specs.Flat.{predsOf}

@@ -3,11 +3,7 @@ use borrow.Author.Needs.{needs}
 use Rattle.script.proofs.Cutting.{keeps-join}
 use Rattle.script.proofs.cut.join.Statement.{statement}
 use Rattle.script.proofs.cut.join.Tie as tie
-use Rattle.script.proofs.cut.join.Reads as reads
-use Rattle.script.proofs.cut.join.Lts as lts
-use Rattle.script.proofs.cut.keep.Reads as keep-reads
 
--- src/cut.rt:22:1
 returns : tie.Need-returns
 returns c =
     let start = c .before .before .before .before .before .before .before .before .before .before .before in

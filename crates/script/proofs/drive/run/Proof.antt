@@ -1,36 +1,24 @@
 -- `run`: the buffers keep their lengths, the script goes from block to block, and the turns fall.
-use Prim.Native.Nat.{_≤_}
+use Prim.Native.Nat.{suc, _≤_}
 use mathlib.Core.Path.{_≡_, sym}
 use native.Mathlib.Omega.{arith}
 use lib.ListN.{length}
 use lib.Seq.{length-take-le}
+use Rattle.script.specs.Directive.{longestLine}
 use Rattle.script.proofs.Cutting.{wrote-first, wrote-long}
 use borrow.Author.Needs.{needs}
 use Rattle.script.proofs.drive.run.Statement.{statement}
 use Rattle.script.proofs.drive.run.Tie as tie
-use Rattle.script.proofs.drive.run.Reads as reads
-use Rattle.script.proofs.drive.run.Lts as lts
-use Rattle.io.proofs.count.Reads as count-reads
-use Rattle.io.proofs.large_buffer.Reads as large-buffer-reads
-use Rattle.io.proofs.write_all.Reads as write-all-reads
-use Rattle.libc.proofs.read.Reads as read-reads
-use Rattle.script.proofs.drive.complain_of_output.Reads as complain-of-output-reads
-use Rattle.script.proofs.drive.line_buffer.Reads as line-buffer-reads
-use Rattle.script.proofs.drive.serve.Reads as serve-reads
-use Rattle.script.proofs.drive.write_last.Reads as write-last-reads
-use Rattle.script.proofs.feed.begin.Reads as begin-reads
-use Rattle.script.proofs.feed.finish.Reads as finish-reads
 
 abbrev Inv-loop : tie.InvT-loop
 Inv-loop block₀ held₀ line₀ bytes₀ reply₀ out₀ script₀ turns₀ t13 block held line bytes reply out script turns =
-    (65536 ≡ length block) × (262145 ≡ length held) × (262145 ≡ length line) × (262145 ≡ length bytes) × (65536 ≡ length reply) × (262145 ≡ length out)
+    (65536 ≡ length block) × (suc longestLine ≡ length held) × (suc longestLine ≡ length line) × (suc longestLine ≡ length bytes) × (65536 ≡ length reply) × (suc longestLine ≡ length out)
     × (script .held ≤ length held)
 
 abbrev μ-loop : tie.MeasureT-loop
 μ-loop block₀ held₀ line₀ bytes₀ reply₀ out₀ script₀ turns₀ t13 block held line bytes reply out script turns =
     turns
 
--- src/drive.rt:93:5
 loop-holds : tie.Need-loop-holds Inv-loop μ-loop
 loop-holds c =
     let held = c .before .before .before .before .before .line-buffer .ensures in (
@@ -43,7 +31,6 @@ loop-holds c =
       omega (arith, c .begin .ensures .none, held),
     )
 
--- src/drive.rt:103:13
 serve-requires : tie.Need-serve-requires Inv-loop μ-loop
 serve-requires c κs =
     let l = c .before .before .before .before .before .before .before .before .before .before .before .before .before .before .loop in (
@@ -51,41 +38,33 @@ serve-requires c κs =
       (l .inv .6, omega (arith, l .inv .1, l .inv .2)),
     )
 
--- src/drive.rt:117:9
 sub-turns : tie.Need-sub-turns Inv-loop μ-loop
 sub-turns c = omega (arith, c .before .before .before .before .before .before .before .before .before .before .before .before .before .before .before .before .before .before .before .before .before .before .loop-test .taken)
 
--- src/drive.rt:93:5
 loop-less : tie.Need-loop-less Inv-loop μ-loop
 loop-less c = omega (arith, c .before .before .before .before .before .before .before .before .before .before .before .before .before .before .before .before .before .before .before .before .before .before .loop-test .taken)
 
 block-long : (k : tie.After-read Inv-loop μ-loop) → 65536 ≡ length (k .read .last .1 .0)
 block-long k = search needs
 
--- src/drive.rt:93:5
 loop-again : tie.Need-loop-again Inv-loop μ-loop
 loop-again c = (block-long (c .before .before .before .before .before .before .before .before .before .before .before .before .before .before .before .before .before .before .before .before), search needs, search needs, search needs, search needs, search needs, c .before .before .before .before .before .before .before .before .serve .ensures .few)
 
--- src/drive.rt:119:9
 finish-requires : tie.Need-finish-requires Inv-loop μ-loop
 finish-requires c κs =
     let l = c .before .before .before .before .before .loop in
     (record { line = sym (l .inv .1); bytes = omega (arith, l .inv .3); reply = omega (arith, l .inv .4); out = omega (arith, l .inv .5) }, l .inv .6)
 
--- src/drive.rt:120:28
 -- the last answer lies in its buffer
 written-within : (k : tie.After-finish Inv-loop μ-loop) → k .finish .result ≤ length (k .finish .last .1 .1 .1 .1 .0)
 written-within k = omega (arith, k .finish .ensures .room, wrote-long (k .finish .ensures .puts))
 
--- src/drive.rt:120:35
 array-share-prefix-out : tie.Need-array-share-prefix-out Inv-loop μ-loop
 array-share-prefix-out c = written-within (c .before .before .before .before)
 
--- src/drive.rt:120:35
 slice-aggregate-write-last-2 : tie.Need-slice-aggregate-write-last-2 Inv-loop μ-loop
 slice-aggregate-write-last-2 c = sym (length-take-le _ _ (written-within (c .before .before .before .before .before)))
 
--- src/drive.rt:120:9
 write-last-requires : tie.Need-write-last-requires Inv-loop μ-loop
 write-last-requires c κs = let k = c .before .before .before .before .before in wrote-first (k .finish .ensures .puts) (k .finish .ensures .room)
 

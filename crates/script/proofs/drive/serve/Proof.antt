@@ -13,11 +13,6 @@ use Rattle.script.proofs.Cutting.{wrote-long}
 use Rattle.script.proofs.Serving.{given-nothing, kept-front, part-handed, part-held}
 use Rattle.script.proofs.drive.serve.Statement.{statement}
 use Rattle.script.proofs.drive.serve.Tie as tie
-use Rattle.script.proofs.drive.serve.Reads as reads
-use Rattle.script.proofs.drive.serve.Lts as lts
-use Rattle.script.proofs.cut.keep.Reads as keep-reads
-use Rattle.script.proofs.drive.write_answers.Reads as write-answers-reads
-use Rattle.script.proofs.feed.feed.Reads as feed-reads
 
 -- the lengths of the buffers, and what the script holds
 abbrev Inv-loop : tie.InvT-loop

@@ -5,11 +5,7 @@ use Rattle.model.specs.Stored.{View}
 use Rattle.script.specs.Run.{place}
 use Rattle.script.proofs.feed.begin.Statement.{statement}
 use Rattle.script.proofs.feed.begin.Tie as tie
-use Rattle.script.proofs.feed.begin.Reads as reads
-use Rattle.script.proofs.feed.begin.Lts as lts
-use Rattle.machine.proofs.start_factory.Reads as start-factory-reads
 
--- src/feed.rt:31:1
 returns : tie.Need-returns
 returns c = record { place = ap (λ (v : View). place v 1) (c .start-factory .ensures); none = refl }
 

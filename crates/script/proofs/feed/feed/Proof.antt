@@ -11,13 +11,6 @@ use Rattle.script.proofs.Running.{held-on, held-ends}
 use borrow.Author.Needs.{needs}
 use Rattle.script.proofs.feed.feed.Statement.{statement}
 use Rattle.script.proofs.feed.feed.Tie as tie
-use Rattle.script.proofs.feed.feed.Reads as reads
-use Rattle.script.proofs.feed.feed.Lts as lts
-use Rattle.lines.proofs.line_end.Reads as line-end-reads
-use Rattle.script.proofs.cut.join.Reads as join-reads
-use Rattle.script.proofs.feed.whole_lines.Reads as whole-lines-reads
-use Rattle.script.proofs.obey.obey.Reads as obey-reads
-use Rattle.std.proofs.num.wrapping_add_u64.Reads as wrapping-add-u64-reads
 
 -- the end of the first line
 module _ (k : tie.After-line-end) where
@@ -46,19 +39,15 @@ module _ (c : tie.After-wrapping-add-u64) where
   inside : ended .line-end .result < length (start ended .args .block .now)
   inside = omega (arith, ends ended, obeyed .before .before .before .before .before .if2 .left)
 
--- src/feed.rt:107:9
 returns : tie.Need-returns
 returns c = let k = c .before .before .before .before .before .before .before .before in rw (k .before .before .before .before .before .if1 .taken) (k .whole-lines .ensures)
 
--- src/feed.rt:110:24
 slice-aggregate-join : tie.Need-slice-aggregate-join
 slice-aggregate-join c = let st = start (c .before .before) in sym (length-take-le _ (st .args .held .now) (st .pre .1 .0))
 
--- src/feed.rt:110:40
 slice-aggregate-join-2 : tie.Need-slice-aggregate-join-2
 slice-aggregate-join-2 c = let k = c .before .before .before in sym (length-take-le _ (start k .args .block .now) (ends k))
 
--- src/feed.rt:119:9
 returns-2 : tie.Need-returns-2
 returns-2 c =
     let j = c .before .before .before .before in
@@ -67,15 +56,12 @@ returns-2 c =
     held-on (placeOf (a .s)) (take (a .s .held) (a .held .now)) (a .block .now) (held-few k) (k .line-end .result) (k .line-end .ensures) (j .join .last .0) (j .join .result)
     (line-long j) (j .join .ensures) (a .s .state) (a .s .line) refl (a .out .now) (c .if2 .taken)
 
--- src/feed.rt:125:25
 slice-aggregate-obey : tie.Need-slice-aggregate-obey
 slice-aggregate-obey c = sym (length-take-le _ _ (c .before .before .before .before .before .join .ensures .inside))
 
--- src/feed.rt:134:15
 add-t32 : tie.Need-add-t32
 add-t32 c = record { fits = omega (arith, inside c, start (ended c) .good .1 .1 .0 .0) }
 
--- src/feed.rt:92:1
 returns-3 : tie.Need-returns-3
 returns-3 c =
     let o = obeyed c in

@@ -6,19 +6,13 @@ use Rattle.script.proofs.Running.{ends-none, ends-obeyed}
 use borrow.Author.Needs.{needs}
 use Rattle.script.proofs.feed.finish.Statement.{statement}
 use Rattle.script.proofs.feed.finish.Tie as tie
-use Rattle.script.proofs.feed.finish.Reads as reads
-use Rattle.script.proofs.feed.finish.Lts as lts
-use Rattle.script.proofs.obey.obey.Reads as obey-reads
 
--- src/feed.rt:147:9
 returns : tie.Need-returns
 returns c = let a = c .before .before .before .before .before .args in ends-none (a .s) (a .held .now) (a .out .now) (c .if1 .taken)
 
--- src/feed.rt:150:25
 slice-aggregate-obey : tie.Need-slice-aggregate-obey
 slice-aggregate-obey c = sym (length-take-le _ _ (c .before .before .before .before .before .before .before .pre .1))
 
--- src/feed.rt:140:1
 returns-2 : tie.Need-returns-2
 returns-2 c =
     let k = c .before .before .before .before .before .before in

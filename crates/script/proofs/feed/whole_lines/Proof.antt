@@ -13,12 +13,6 @@ use Rattle.script.proofs.Cutting.{keeps-part, wrote-long}
 use Rattle.script.proofs.Running.{Run, run-start, run-turn, run-whole, run-stop}
 use Rattle.script.proofs.feed.whole_lines.Statement.{statement}
 use Rattle.script.proofs.feed.whole_lines.Tie as tie
-use Rattle.script.proofs.feed.whole_lines.Reads as reads
-use Rattle.script.proofs.feed.whole_lines.Lts as lts
-use Rattle.lines.proofs.line_end.Reads as line-end-reads
-use Rattle.script.proofs.cut.keep.Reads as keep-reads
-use Rattle.script.proofs.obey.obey.Reads as obey-reads
-use Rattle.std.proofs.num.wrapping_add_u64.Reads as wrapping-add-u64-reads
 
 abbrev Inv-loop : tie.InvT-loop
 Inv-loop block line₀ bytes₀ reply₀ out₀ state₀ number₀ at₀ written₀ line bytes reply out state number at written =

@@ -11,8 +11,6 @@ use Rattle.session.specs.Feed.{enough, Keeps}
 use Rattle.session.proofs.Cutting.{held-more, held-enough, held-all}
 use Rattle.session.proofs.cut.keep.Statement.{statement}
 use Rattle.session.proofs.cut.keep.Tie as tie
-use Rattle.session.proofs.cut.keep.Reads as reads
-use Rattle.session.proofs.cut.keep.Lts as lts
 
 abbrev Inv-loop : tie.InvT-loop
 Inv-loop part next₀ n₀ i₀ next n i =

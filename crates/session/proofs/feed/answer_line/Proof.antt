@@ -5,10 +5,6 @@ use Rattle.session.proofs.Answering.{answers-obeyed}
 use borrow.Author.Needs.{needs}
 use Rattle.session.proofs.feed.answer_line.Statement.{statement}
 use Rattle.session.proofs.feed.answer_line.Tie as tie
-use Rattle.session.proofs.feed.answer_line.Reads as reads
-use Rattle.session.proofs.feed.answer_line.Lts as lts
-use Rattle.engine.proofs.line.obey.Reads as obey-reads
-use Rattle.session.proofs.run.say.Reads as say-reads
 
 returns : tie.Need-returns
 returns c =

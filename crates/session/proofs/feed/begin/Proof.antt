@@ -7,10 +7,6 @@ use Rattle.model.proofs.Views.{view-is}
 use borrow.Author.Needs.{needs}
 use Rattle.session.proofs.feed.begin.Statement.{statement}
 use Rattle.session.proofs.feed.begin.Tie as tie
-use Rattle.session.proofs.feed.begin.Reads as reads
-use Rattle.session.proofs.feed.begin.Lts as lts
-use Rattle.machine.proofs.start_factory.Reads as start-factory-reads
-use Rattle.session.proofs.feed.nothing_held.Reads as nothing-held-reads
 
 returns : tie.Need-returns
 returns c =

@@ -8,13 +8,6 @@ use Rattle.session.proofs.Running.{held-on, held-ends}
 use borrow.Author.Needs.{needs}
 use Rattle.session.proofs.feed.feed.Statement.{statement}
 use Rattle.session.proofs.feed.feed.Tie as tie
-use Rattle.session.proofs.feed.feed.Reads as reads
-use Rattle.session.proofs.feed.feed.Lts as lts
-use Rattle.session.proofs.cut.keep.Reads as keep-reads
-use Rattle.lines.proofs.line_end.Reads as line-end-reads
-use Rattle.session.proofs.feed.answer_line.Reads as answer-line-reads
-use Rattle.session.proofs.feed.nothing_held.Reads as nothing-held-reads
-use Rattle.session.proofs.feed.whole_lines.Reads as whole-lines-reads
 
 returns : tie.Need-returns
 returns c = rw (c .before .before .before .before .if1 .taken) (c .before .before .whole-lines .ensures)

@@ -8,9 +8,6 @@ use Rattle.session.proofs.Running.{ends-none, ends-answered}
 use borrow.Author.Needs.{needs}
 use Rattle.session.proofs.feed.finish.Statement.{statement}
 use Rattle.session.proofs.feed.finish.Tie as tie
-use Rattle.session.proofs.feed.finish.Reads as reads
-use Rattle.session.proofs.feed.finish.Lts as lts
-use Rattle.session.proofs.feed.answer_line.Reads as answer-line-reads
 
 -- the held bytes lie within their array
 within : (c : tie.Start) → c .args .s .held .count ≤ length (c .args .s .held .bytes)

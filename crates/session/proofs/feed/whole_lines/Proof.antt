@@ -7,12 +7,6 @@ use Rattle.lines.proofs.Laws.{end-inside}
 use Rattle.session.proofs.Running.{run-whole, run-stop, keeps-rest}
 use Rattle.session.proofs.feed.whole_lines.Statement.{statement}
 use Rattle.session.proofs.feed.whole_lines.Tie as tie
-use Rattle.session.proofs.feed.whole_lines.Reads as reads
-use Rattle.session.proofs.feed.whole_lines.Lts as lts
-use Rattle.lines.proofs.line_end.Reads as line-end-reads
-use Rattle.session.proofs.cut.keep.Reads as keep-reads
-use Rattle.session.proofs.feed.nothing_held.Reads as nothing-held-reads
-use Rattle.session.proofs.run.run_lines.Reads as run-lines-reads
 
 line-end-requires : tie.Need-line-end-requires
 line-end-requires c κs = c .before .before .before .run-lines .ensures .run .within

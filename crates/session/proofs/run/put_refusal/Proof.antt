@@ -10,11 +10,6 @@ use Rattle.session.proofs.Answering.{refusal-written}
 use borrow.Author.Needs.{needs}
 use Rattle.session.proofs.run.put_refusal.Statement.{statement}
 use Rattle.session.proofs.run.put_refusal.Tie as tie
-use Rattle.session.proofs.run.put_refusal.Reads as reads
-use Rattle.session.proofs.run.put_refusal.Lts as lts
-use Rattle.print.proofs.put_byte.Reads as put-byte-reads
-use Rattle.print.proofs.put_decimal.Reads as put-decimal-reads
-use Rattle.print.proofs.put_text.Reads as put-text-reads
 
 -- the number is a byte, of three digits at most
 byte : (c : tie.Start) → c .args .number < 256

@@ -1,12 +1,12 @@
 -- `run_lines`: a run over the block, line by line, the state open in its parts.
+use Rattle.model.specs.declared.Memory.{Memory as StoredMemory}
+use Rattle.model.specs.declared.State.{State as StoredState}
 use Prim.Native.Nat.{ℕ, _+_, _-_, _<_}
 use mathlib.Core.Path.{_≡_, refl, ap}
 use mathlib.Core.Logic.{⊎-elim}
 use native.Mathlib.Omega.{arith}
 use borrow.Author.Needs.{needs}
 use lib.ListN.{length, take, drop}
-use Rattle.model.specs.declared.Memory.{Memory as StoredMemory}
-use Rattle.model.specs.declared.State.{State as StoredState}
 use Rattle.model.specs.Stored.{stateOf, memoryShaped}
 use Rattle.commands.specs.Done.{done, Fits}
 use Rattle.lines.specs.Before.{before}
@@ -19,15 +19,6 @@ use Rattle.engine.proofs.Views.{fine-volatile}
 use Rattle.session.proofs.Turning.{Turned, turned}
 use Rattle.session.proofs.run.run_lines.Statement.{statement}
 use Rattle.session.proofs.run.run_lines.Tie as tie
-use Rattle.session.proofs.run.run_lines.Reads as reads
-use Rattle.session.proofs.run.run_lines.Lts as lts
-use Rattle.engine.proofs.line.decide.Reads as decide-reads
-use Rattle.lines.proofs.line_end.Reads as line-end-reads
-use Rattle.memory.proofs.edit.put_at.Reads as put-at-reads
-use Rattle.memory.proofs.edit.removed_at.Reads as removed-at-reads
-use Rattle.memory.proofs.factory.factory_memory.Reads as factory-memory-reads
-use Rattle.session.proofs.run.joined.Reads as joined-reads
-use Rattle.session.proofs.run.say.Reads as say-reads
 
 -- the stored state of these parts
 abbrev stateWith : StoredMemory → StoredMemory → ℕ → ℕ → StoredState

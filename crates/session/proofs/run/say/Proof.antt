@@ -3,9 +3,6 @@ use mathlib.Core.Path.{refl}
 use borrow.Author.Needs.{needs}
 use Rattle.session.proofs.run.say.Statement.{statement}
 use Rattle.session.proofs.run.say.Tie as tie
-use Rattle.session.proofs.run.say.Reads as reads
-use Rattle.session.proofs.run.say.Lts as lts
-use Rattle.session.proofs.run.put_refusal.Reads as put-refusal-reads
 
 returns : tie.Need-returns
 returns c = record { taken = λ z. (refl, refl); refused = λ z. absurd (z (c .if1 .taken)) }
