@@ -52,17 +52,12 @@ fn put_one(out: &mut [u8], at: usize, n: u64) -> usize
     put_byte(out, at, b'0' + (n % 10) as u8)
 }
 
-// The two digits of every number below 100 stand in one text, so that two digits cost one division.
 fn put_two(out: &mut [u8], at: usize, n: u64) -> usize
     requires { ⌜ at + 2 ≤ length (now out) ⌝ }
     ensures { λ r. ⌜ Wrote (lastDigits 2 n) (now (out .entry)) at (now (out .exit)) r ⌝ }
 {
-    let digits =
-        b"00010203040506070809101112131415161718192021222324252627282930313233343536373839404142434445464748495051525354555657585960616263646566676869707172737475767778798081828384858687888990919293949596979899";
-    let k = (n % 100) as usize;
-    out[at] = digits[2 * k];
-    out[at + 1] = digits[2 * k + 1];
-    at + 2
+    let i = put_one(out, at, n / 10);
+    put_one(out, i, n)
 }
 
 fn put_three(out: &mut [u8], at: usize, n: u64) -> usize
@@ -85,8 +80,8 @@ fn put_six(out: &mut [u8], at: usize, n: u64) -> usize
     requires { ⌜ at + 6 ≤ length (now out) ⌝ }
     ensures { λ r. ⌜ Wrote (lastDigits 6 n) (now (out .entry)) at (now (out .exit)) r ⌝ }
 {
-    let i = put_two(out, at, n / 10000);
-    put_four(out, i, n)
+    let i = put_three(out, at, n / 1000);
+    put_three(out, i, n)
 }
 
 // Without leading zeros: up to four digits.
