@@ -1,6 +1,6 @@
 // KEN?: one operating system, or work and tool; then the other two groups.
-use crate::lines::put_enabled;
-use crate::lines::put_further_enabled;
+use crate::line::put_enabled;
+use crate::line::put_further_enabled;
 use crate::slot;
 use model::Enabled;
 use model::Group;

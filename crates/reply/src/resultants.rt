@@ -1,5 +1,5 @@
 // KLT?: resultants, by the walk along the links of a memory laid flat once.
-use crate::lines::put_resultant;
+use crate::line::put_resultant;
 use crate::slot;
 use crate::texts::put_by_group;
 use chains::frames::Reached;
