@@ -19,7 +19,7 @@ use Rattle.reply.proofs.StoredLaws.{few}
 
 -- only to fill a place where a list has none
 abbrev pub nowhere : Reached
-nowhere = record { pose = record { at = origin; rot = record { a = Px; b = Px; c = Px } }; steps = 0 }
+nowhere = record { at = origin; rot = record { a = Px; b = Px; c = Px }; steps = 0 }
 
 -- what is reached from each place up to i, place 0 too
 pub record Kept (l : List System) (known : List Reached) (i : ℕ) : Type 0 where
