@@ -1,14 +1,13 @@
 -- The walk over a memory laid flat reaches what the line of a place shows.
 use Prim.Native.Nat.{ℕ, zero, suc, _-_, _≤_, _<_}
 use mathlib.Core.Path.{_≡_, refl, sym, ap, subst, _∙_}
-use mathlib.Core.List.{List, [], _∷_}
+use mathlib.Core.List.{List, []}
 use native.Mathlib.Omega.{arith}
 use lib.IntN.{ℤ}
 use lib.ListN.{length, take, getD, length-take, length-map}
 use Rattle.model.specs.Kinds.{ofKind}
-use Rattle.model.specs.Memory.{System, Memory, Ref, named, systemAt, nameOf, fixedRef, userRef}
-use Rattle.model.specs.Request.{resultantOf}
-use Rattle.model.specs.Reply.{listing, resultantLine, listed}
+use Rattle.model.specs.Memory.{System, systemAt, nameOf, fixedRef, userRef}
+use Rattle.model.specs.Reply.{resultantLine}
 use Rattle.model.specs.Stored.{bytesOf, systemsOf, memoryOf, FineMemory}
 use Rattle.model.proofs.Open.{definitions-open}
 use Rattle.pose.specs.Poses.{Within, reach}

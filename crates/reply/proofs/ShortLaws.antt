@@ -14,11 +14,10 @@ use Rattle.model.specs.Limits.{nameLimit, quarterTurn, offsetLimit, bufferLimit
 use Rattle.model.specs.Kinds.{ofKind, ofGroup}
 use Rattle.model.specs.Words.{capital, nameByte, legalName}
 use Rattle.model.specs.Pose.{shown}
-use Rattle.model.specs.Memory.{System, Memory, Ref, fixedRef, userRef, systemAt, nameOf, typeOf, predName, named}
+use Rattle.model.specs.Memory.{System, Ref, fixedRef, userRef, systemAt, nameOf, typeOf, predName, named}
 use Rattle.model.specs.Chain.{steps, resultant}
 use Rattle.model.specs.Use.{operatingPlaces, inGroup, enabledRefs}
-use Rattle.model.specs.WellFormed.{memoryFine}
-use Rattle.model.specs.Request.{Query, enabledOnes, systemsAll, links, resultants, resultantOf}
+use Rattle.model.specs.Request.{enabledOnes, systemsAll, links, resultants, resultantOf}
 use Rattle.model.specs.Reply.{value, degrees, sixValues, listing, everySystem, enabledLine, linkLine, systemLine, resultantLine, listed}
 use Rattle.model.proofs.Basics.{and-split}
 use Rattle.model.proofs.Memories.Fine.{Systems, own-of, fine-of, blank-beyond}
@@ -33,6 +32,7 @@ use Rattle.model.proofs.Digits.{decimal-short}
 use Rattle.print.proofs.Laws.{value-short}
 use Rattle.reply.specs.Types.{Vec3, Turns, Kind, Ksd, Kst, Ksw, Ksb, Kld, Group, Operating, Orientational, Levelling, Enabled, OperatingPart, Single, Pair}
 use Rattle.reply.specs.Lines.{furtherLines}
+use Rattle.reply.specs.Fits.{RepliesFit}
 use Rattle.reply.proofs.ValueLaws.{length-offsets, length-turns, length-six}
 use Rattle.reply.proofs.ListLaws.{every-list}
 use Rattle.reply.proofs.StoredLaws.{turns-at}
@@ -159,7 +159,7 @@ refs-short line e h = go (e .operating)
     go (Single p) = simp (length-append, append-nil) (omega (arith, h (inGroup Operating p), h o, h v))
     go (Pair w t) = simp (length-append, append-nil) (omega (arith, h (inGroup Operating w), h (inGroup Operating t), h o, h v))
 
-pub listed-short : (m : Memory) → memoryFine m ≡ true → (q : Query) → length (listed m q) ≤ bufferLimit
+pub listed-short : RepliesFit
 unfolding listed listing
 listed-short m f enabledOnes = refs-short (enabledLine (m .systems)) (m .enabled) (enabled-short (m .systems) (fine-of m f .systems) (walkable m f))
 listed-short m f systemsAll =

@@ -6,7 +6,6 @@ use model::Vec3;
 use print::put_degrees;
 use print::put_text;
 use print::put_value;
-ghost use mathlib.Core.Path.{_≡_};
 ghost use Prim.Native.Nat.{_+_, _≤_};
 ghost use lib.ListN.{length};
 ghost use Rattle.model.specs.Kinds.{ofKind, ofGroup};

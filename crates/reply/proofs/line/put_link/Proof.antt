@@ -7,7 +7,6 @@ use Rattle.model.specs.Reply.{linkLine}
 use Rattle.model.specs.Stored.{systemOf, bytesOf}
 use Rattle.reply.specs.Lines.{linkText}
 use Rattle.reply.specs.Lines.{atFixed}
-use Rattle.reply.specs.Values.{byGroup}
 use Rattle.reply.proofs.FixedLaws.{fixed-link}
 use Rattle.reply.proofs.LineLaws.{at-fixed, at-user}
 use borrow.Author.Needs.{needs}

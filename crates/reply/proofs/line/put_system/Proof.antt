@@ -7,7 +7,6 @@ use Rattle.model.specs.Reply.{systemLine}
 use Rattle.model.specs.Stored.{systemOf}
 use Rattle.reply.specs.Lines.{systemText}
 use Rattle.reply.specs.Lines.{atFixed}
-use Rattle.reply.specs.Values.{byGroup}
 use Rattle.reply.proofs.FixedLaws.{fixed-system}
 use Rattle.reply.proofs.LineLaws.{at-fixed, at-user}
 use borrow.Author.Needs.{needs}
