@@ -19,7 +19,7 @@ use Rattle.model.specs.Stored.{systemOf, systemsOf, memoryOf, memoryShaped}
 use Rattle.model.proofs.Basics.{all-at}
 use Rattle.model.proofs.Image.Limits.{system-within, parts}
 use Rattle.memory.proofs.Laws.{getD-any, length-systems, system-at}
-use Rattle.memory.proofs.Shape.{shaped-count}
+use Rattle.model.proofs.Shape.{shaped-count}
 
 code-large : (z : ℤ) → natAbs z ≤ signedCode z + 1
 code-large (pos n) = omega arith

@@ -14,7 +14,7 @@ use Rattle.model.specs.Memory.{Memory, State}
 use Rattle.model.specs.Request.{reading}
 use Rattle.model.specs.Reply.{listing, everySystem, resultantLine}
 use Rattle.model.specs.Machine.{Outcome, answered, stepped, restart, startFactory, startImage}
-use Rattle.model.specs.Trace.{Call, Line, line, again, called, afterCalls, afterLines}
+use Rattle.model.specs.Trace.{Call, Line, line, restarting, called, afterCalls, afterLines}
 use Rattle.model.specs.Demand.{Start, factory-start, image-start, startState, asksToEnable, noneTaken, steady, Replies}
 use Rattle.model.specs.Stored.{holds, stateOf, viewOf, Answered, Restarted, ofOutcome, lineAnswer, restartAnswer}
 use Rattle.model.specs.Histories.{Returned, ReturnedAlone, standsFor, LinePromise, RestartPromise, Begins, at-factory, at-image, Calls, Lines, steadyBy, Stands, KltPrints, StoredAfterBoth, StoredDemand3, StoredChecklist}
