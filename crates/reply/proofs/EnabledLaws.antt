@@ -14,10 +14,10 @@ use Rattle.model.specs.Request.{enabledOnes}
 use Rattle.model.specs.Reply.{listing, enabledLine, listed}
 use Rattle.model.proofs.Memories.Fine.{Placed, PartPlaced, fine-of}
 use Rattle.chains.proofs.Copies.{unset}
+use Rattle.model.proofs.Shape.{systemsOf-count}
 use Rattle.reply.specs.Types.{Kind, Operating, Orientational, Levelling, Enabled, OperatingPart, Single, Pair, StoredMemory}
 use Rattle.reply.specs.Lines.{further, enabledText}
 use Rattle.reply.specs.EnabledText.{firstPlace, toolPlace, pair?, toolText, groupsText}
-use Rattle.reply.proofs.StoredLaws.{count-is}
 use Rattle.reply.proofs.TurnLaws.{enabled-turn}
 
 -- ---- the parts
@@ -64,7 +64,7 @@ module _ (m : StoredMemory) (ready : FineMemory m) (long : length (m .systems) �
   placed-within k p f = go (decLt 0 p)
     where
       go : Dec (0 < p) → p ≤ m .count
-      go (yes h) = omega (arith, f h .0, count-is m (ready .shape) long)
+      go (yes h) = omega (arith, f h .0, systemsOf-count m (ready .shape) long)
       go (no h) = omega arith
 
   pub first-within : firstPlace (m .enabled .operating) ≤ m .count
