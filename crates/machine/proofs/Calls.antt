@@ -1,6 +1,6 @@
 -- What the public calls give in a well-formed state, and what a start gives.
 use Prim.Native.Nat.{ℕ}
-use mathlib.Core.Path.{_≡_, refl, sym, ap, _∙_}
+use mathlib.Core.Path.{_≡_, refl}
 use mathlib.Core.List.{List}
 use mathlib.Core.Option.{some, none}
 use mathlib.Core.Bool.{true, false, cond}
@@ -16,6 +16,7 @@ use Rattle.image.specs.declared.ImageRead.{ImageRead}
 use Rattle.image.specs.Accepted.{Answers}
 use Rattle.machine.specs.Calls.{startedWith, begunOf}
 use Rattle.memory.proofs.Shape.{shape-both, shape-parts}
+use Rattle.model.proofs.Told.{told-value}
 use Rattle.model.proofs.Views.{view-holds}
 
 module _ (s : StoredState) (f : FineState s) where
@@ -58,11 +59,11 @@ module _ (bs : List ℕ) (r : ImageRead) (a : Answers bs r) where
   -- [Image] accepted
   pub start-taken : r .ok ≡ true → record { state = viewOf (startedWith (r .memory)); number = 0 } ≡ ofBegun (startImage bs)
   start-taken e =
-      let is : accepted bs ≡ some (memoryOf (r .memory)) = sym (a .is) ∙ rw e refl in
+      let is : accepted bs ≡ some (memoryOf (r .memory)) = told-value 14 _ _ (rw e at (a .told)) in
       rw (start-some bs (memoryOf (r .memory)) is, start-holds (r .memory) (a .shaped)) refl
 
   -- [Error 14]
   pub start-refused : r .ok ≡ false → record { state = viewOf (startedWith (r .memory)); number = 14 } ≡ ofBegun (startImage bs)
   start-refused e =
-      let is : accepted bs ≡ none = sym (a .is) ∙ rw e refl in
+      let is : accepted bs ≡ none = told-value 14 _ _ (rw e at (a .told)) in
       rw (start-none bs is, start-holds (r .memory) (a .shaped), a .factory-else e) refl
