@@ -6,8 +6,7 @@ use mathlib.Core.Bool.{Bool, true, false, cond, _&&_}
 use mathlib.Core.Option.{none, some}
 use native.Mathlib.Omega.{arith}
 use native.Mathlib.Numerals.{add-one}
-use borrow.Author.Tests.{le-leb, lt-leb, leb-true}
-use lib.Dec.{leb}
+use borrow.Author.Tests.{le-leb, lt-leb}
 use lib.ListN.{length, take, drop, getD, set, replicate}
 use lib.Seq.{take-suc, take-at, set-at, length-take-le, append-snoc}
 use Rattle.model.specs.Limits.{nameLimit}
@@ -15,7 +14,8 @@ use Rattle.model.specs.Lists.{all}
 use Rattle.model.specs.Stored.{bytesOf}
 use Rattle.model.specs.Told.{Told, tells, refuses, orNumber}
 use Rattle.model.specs.Words.{legalName, capital, nameByte}
-use Rattle.model.proofs.Basics.{and-false, and-true, and-split}
+use Rattle.model.proofs.Basics.{and-false, and-true}
+use Rattle.model.proofs.Words.{legalName-short}
 use Rattle.text.specs.declared.names.NameRead.{NameRead}
 use Rattle.text.specs.Names.{noName, stored, Reads}
 use Rattle.text.proofs.Lists.{all-next}
@@ -69,12 +69,6 @@ pub reads-some : (w : List ℕ) {r : NameRead} → legalName w ≡ true → r �
 unfolding orNumber
 reads-some w t e = rw e (record { told = rw (t, stored-bytes w); name = rw t })
 
--- a name read gives the word's bytes, and has room for them
-pub legal-short : (w : List ℕ) → legalName w ≡ true → length w ≤ nameLimit
-unfolding legalName
-legal-short [] e = omega arith
-legal-short (b ∷ bs) e = leb-true (suc (length bs)) nameLimit (and-split (capital b && all nameByte bs) (leb (suc (length bs)) nameLimit) e .1)
-
 -- the answer has a name exactly where the word is one
 told-alike : (s t : Bool) (a w : List ℕ) → _≡_ {A = Told (List ℕ)} (cond s (tells a) (refuses 5)) (orNumber 5 (cond t (some w) none)) → s ≡ t
 unfolding orNumber
@@ -88,6 +82,7 @@ module _ (w : List ℕ) (r : NameRead) (e : Reads w r) where
   pub name-ok : r .ok ≡ legalName w
   name-ok = told-alike (r .ok) (legalName w) (bytesOf (r .name)) w (e .told)
 
+  -- a name that is read gives the word's bytes, and has room for them
   module _ (t : legalName w ≡ true) where
     pub name-is : r .name ≡ stored w
     name-is = rw t at (e .name)
@@ -96,4 +91,4 @@ module _ (w : List ℕ) (r : NameRead) (e : Reads w r) where
     name-bytes = rw name-is (stored-bytes w)
 
     pub name-short : r .name .len ≤ nameLimit
-    name-short = rw name-is (legal-short w t)
+    name-short = rw name-is (legalName-short w t)
