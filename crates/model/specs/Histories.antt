@@ -3,7 +3,7 @@
 -- what such states stand for. The statements only; they are proved in proofs/Histories.
 use Prim.Native.Nat.{_≤_, _<_}
 use mathlib.Core.Path.{_≡_}
-use Rattle.model.specs.Base.{ℕ, List, [], _∷_, map, Bool, true, false, not, _&&_, some, eqb, length, take}
+use Rattle.model.specs.Base.{ℕ, List, [], _∷_, map, Bool, true, not, _&&_, some, eqb, length, take}
 use Rattle.model.specs.Types.{StoredState}
 use Rattle.model.specs.Ascii.{ascii}
 use Rattle.model.specs.Limits.{bufferLimit}

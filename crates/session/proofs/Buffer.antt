@@ -1,14 +1,14 @@
 -- What a line prints and what it does to the state do not depend on what the lent buffer holds, if it is long enough; and of a line that is too long,
 -- one byte too many tells all.
-use Prim.Native.Nat.{ℕ, zero, suc, _+_, _-_, _≤_, _<_}
+use Prim.Native.Nat.{ℕ, suc, _-_, _≤_, _<_}
 use mathlib.Core.Path.{_≡_, refl, sym, ap, _∙_}
-use mathlib.Core.List.{List, [], _∷_, _++_}
-use mathlib.Core.Bool.{Bool, true, false, not, _||_}
+use mathlib.Core.List.{List, [], _∷_}
+use mathlib.Core.Bool.{true, false}
 use mathlib.Core.Logic.{⊎-elim}
 use native.Mathlib.Omega.{arith}
-use lib.Dec.{eqb, ltb}
+use lib.Dec.{eqb}
 use lib.ListN.{length, take, drop, length-append, length-drop}
-use borrow.Author.Tests.{le-ltb, lt-ltb, eqb-true, eqb-false, ne-eqb}
+use borrow.Author.Tests.{le-ltb, lt-ltb, eqb-false, ne-eqb}
 use Rattle.model.proofs.Basics.{either}
 use Rattle.model.proofs.Ladder.Refusing.{step-fine, step-ill, judged-taken, judged-refused, refusals-change-nothing}
 use Rattle.model.specs.Limits.{bufferLimit, lineLimit}
@@ -16,13 +16,12 @@ use Rattle.model.specs.Memory.{State}
 use Rattle.model.specs.WellFormed.{wellFormed}
 use Rattle.model.specs.Request.{Reading, reading, unknown, malformed, beyond, asks}
 use Rattle.model.specs.Refusals.{refusal, ladder, short, first, unreadable, readingLadder}
-use Rattle.model.specs.Machine.{Outcome, stepped, judged, carriedOut, answered, refused, written}
-use Rattle.model.specs.Effects.{next, withError}
-use Rattle.model.specs.Reply.{reply, decimal}
-use Rattle.model.specs.Ascii.{ascii}
-use lib.Seq.{take-append-seam, length-take-le, take-all}
+use Rattle.model.specs.Machine.{Outcome, stepped, judged, carriedOut, answered, written}
+use Rattle.model.specs.Effects.{next}
+use Rattle.model.specs.Reply.{reply}
+use lib.Seq.{length-take-le, take-all}
 use native.Mathlib.Decide.{decLt}
-use Rattle.model.specs.Trace.{printed}
+use Rattle.model.specs.Trace.{refusalText, printed}
 use Rattle.lines.proofs.Lent.{Shown, shown, shown-alike, text-answered}
 
 -- what is seen of an outcome: the state, and what is printed
@@ -52,7 +51,7 @@ printed-answered st t b = text-answered t b
 seen-shown : (o p : Outcome) → shown o ≡ shown p → seen o ≡ seen p
 unfolding printed
 seen-shown o p e =
-    ap {B = Seen} (λ (s : Shown). record { state = s .state; text = elim (eqb (s .number) 0) [ true ↦ s .text | false ↦ ascii "E " ++ (decimal (s .number) ++ ascii "\n") ] }) e
+    ap {B = Seen} (λ (s : Shown). record { state = s .state; text = elim (eqb (s .number) 0) [ true ↦ s .text | false ↦ refusalText (s .number) ] }) e
 
 -- ---- the two laws
 
@@ -135,6 +134,6 @@ taken-writes st l b z =
 
 -- a refused line prints its number and writes nothing
 pub turned-down : (st : State) (l b : List ℕ) → (stepped st l b .number ≡ 0 → ⊥) →
-    (printed (stepped st l b) ≡ ascii "E " ++ (decimal (stepped st l b .number) ++ ascii "\n")) × (stepped st l b .buffer ≡ b)
+    (printed (stepped st l b) ≡ refusalText (stepped st l b .number)) × (stepped st l b .buffer ≡ b)
 unfolding printed
 turned-down st l b n = (rw (ne-eqb (stepped st l b .number) 0 n, printed), refusals-change-nothing .lines st l b n .buffer)

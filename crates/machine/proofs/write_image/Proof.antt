@@ -1,5 +1,5 @@
 -- `write_image` writes the image of the permanent memory; it can meet only 1 and 2.
-use mathlib.Core.Path.{_≡_, sym, _∙_}
+use mathlib.Core.Path.{sym, _∙_}
 use borrow.Author.Tests.{not-true, not-false, lt-ltb, le-ltb}
 use Rattle.model.specs.Refusals.{short}
 use Rattle.model.specs.Stored.{stateOf}

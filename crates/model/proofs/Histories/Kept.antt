@@ -5,10 +5,10 @@ use mathlib.Core.List.{List, [], _∷_}
 use mathlib.Core.Bool.{Bool, true, false, _||_}
 use mathlib.Core.Option.{Option, none, some}
 use native.Mathlib.Omega.{arith}
-use borrow.Author.Tests.{leb-true, le-leb}
+use borrow.Author.Tests.{leb-true}
 use lib.Dec.{eqb}
 use Rattle.model.specs.Types.{Kind, Vec3, Turns}
-use Rattle.model.specs.Lists.{any, between}
+use Rattle.model.specs.Lists.{any}
 use Rattle.model.specs.Memory.{Memory, State, factory, started, placeNamed, userNamed}
 use Rattle.model.specs.Words.{legalName, reserved}
 use Rattle.model.specs.WellFormed.{memoryFine, wellFormed}
@@ -20,7 +20,7 @@ use Rattle.model.specs.Machine.{carriedOut, stepped, restart, startImage
 use Rattle.model.specs.Trace.{Call, Line, line, restarting, called, afterCalls, afterLines}
 use Rattle.model.specs.Demand.{Start, factory-start, image-start, startState}
 use Rattle.model.specs.Claims.{applies, LegalDefinition, WellFormedKept}
-use Rattle.model.proofs.Basics.{and-split, and-join, or-false, or-right, true-false}
+use Rattle.model.proofs.Basics.{and-split, or-false, or-right, true-false}
 use Rattle.model.proofs.Open.{definitions-open}
 use Rattle.model.proofs.Ladder.First.{Clear, clear-of}
 use Rattle.model.proofs.Ladder.Refusing.{by-case, restart-fine}
