@@ -1,5 +1,5 @@
 // The lines of the lists. A further line ends the line before it, and is written from the front of the part that it is lent. Place 0 is the fixed
-// system of the group g, whose text is constant; any other place is the user system s.
+// system of the group g, whose text is constant, and s is not looked at; any other place is the user system s, and then g is not.
 use crate::texts::put_by_group;
 use crate::texts::put_end;
 use crate::texts::put_fixed_name;

@@ -41,7 +41,7 @@ groups c = groupsText (c .before .before .before .before .before .before .before
 whole : (c : tie.After-l) → listed (memoryOf (c .before .before .before .before .before .before .before .before .before .before .before .before .args .t1)) enabledOnes ≡ first c ++ (tool c ++ groups c)
 whole c =
     let s = c .before .before .before .before .before .before .before .before .before .before .before .before in
-    rw (c .before .before .before .before .before .before .before .before .slot .ensures, c .before .before .before .before .before .before .slot2 .ensures, c .before .before .before .before .before .slot3 .ensures, c .before .before .before .before .slot4 .ensures, c .before .before .before .before .before .before .before .before .before .first-place .ensures, c .before .before .before .before .before .before .before .tool-place .ensures)
+    rw (c .before .before .before .before .before .before .before .before .slot .ensures, c .before .before .before .before .before .before .slot2 .ensures, c .before .before .before .before .before .slot3 .ensures, c .before .before .before .before .slot4 .ensures, c .before .before .before .before .before .before .before .before .before .first-place .ensures, c .before .before .before .before .before .before .before .tool-half .ensures)
     (enabled-whole (s .args .t1) (s .pre .0) (long s))
 
 fits : (c : tie.After-l) → length (first c) + (length (tool c) + length (groups c)) ≤ length (c .before .before .before .before .before .before .before .before .before .before .before .before .args .reply .now)
@@ -63,7 +63,7 @@ element-copy-out-a c =
 element-copy-out-b : tie.Need-element-copy-out-b
 element-copy-out-b c =
     let s = c .before .before .before .before .before .before .before .before .before in
-    omega (arith, tool-within (s .args .t1) (s .pre .0) (long s), shaped-count (s .args .t1) (s .pre .0 .shape), c .before .before .before .slot2 .ensures, c .before .before .before .before .tool-place .ensures)
+    omega (arith, tool-within (s .args .t1) (s .pre .0) (long s), shaped-count (s .args .t1) (s .pre .0 .shape), c .before .before .before .slot2 .ensures, c .before .before .before .before .tool-half .ensures)
 
 element-copy-out-o : tie.Need-element-copy-out-o
 element-copy-out-o c =
@@ -89,7 +89,7 @@ put-tool-requires c κs =
     let w = c .before .before .before in
     let k = w .before .before in
     let s = k .before .before .before .before .before .before .before .before .before .before .before .before in (
-      named k _ (k .before .before .before .before .before .before .slot2 .result) (tool-within (s .args .t1) (s .pre .0) (long s)) (k .before .before .before .before .before .before .slot2 .ensures ∙ rw (k .before .before .before .before .before .before .before .tool-place .ensures)),
+      named k _ (k .before .before .before .before .before .before .slot2 .result) (tool-within (s .args .t1) (s .pre .0) (long s)) (k .before .before .before .before .before .before .slot2 .ensures ∙ rw (k .before .before .before .before .before .before .before .tool-half .ensures)),
       omega (arith, fits k, w .put-enabled .ensures .place, w .put-enabled .kept .0),
     )
 
