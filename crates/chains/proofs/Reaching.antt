@@ -1,6 +1,6 @@
 -- The walk's laws over flat numbers: one link on, and how far off the origin it can be.
 use Prim.Native.Nat.{ℕ, zero, suc, _+_, _-_, _*_, _<_, _≤_}
-use mathlib.Core.Path.{_≡_, refl, sym, ap, subst, _∙_}
+use mathlib.Core.Path.{_≡_, sym, ap, subst, _∙_}
 use mathlib.Core.List.{List}
 use native.Mathlib.Omega.{arith}
 use native.Mathlib.Nat.{suc-mul}
@@ -11,7 +11,7 @@ use Rattle.model.specs.Limits.{maxSystems, offsetLimit}
 use Rattle.model.specs.Pose.{followed, rotOf}
 use Rattle.model.specs.Memory.{System, systemAt, blank}
 use Rattle.model.specs.Chain.{predOf, steps, ownPose, poseOver, resultant}
-use Rattle.model.proofs.Chains.Hops.{ring-free, pred-in-range}
+use Rattle.model.proofs.Chains.Hops.{predOf-is, ring-free, pred-in-range}
 use Rattle.model.proofs.Chains.Steps.{Ends, steps-zero, steps-within, steps-pred, resultant-zero, resultant-pred}
 use Rattle.pose.specs.Poses.{Within, reach}
 use Rattle.pose.proofs.Bounds.{within-origin, within-more, within-followed}
@@ -49,11 +49,6 @@ system-user : (l : List System) (q i : ℕ) → q ≡ suc i → systemAt l q ≡
 unfolding systemAt
 system-user l q i e = rw e
 
-pred-here : (l : List System) (q : ℕ) → predOf l q ≡ systemAt l q .pred
-unfolding predOf systemAt
-pred-here l zero = refl
-pred-here l (suc i) = refl
-
 pub walked-fixed : (l : List System) (q : ℕ) → q ≡ 0 → atFixed ≡ walked l q
 walked-fixed l q e = (λ d. record { pose = sym (resultant-zero l) d; steps = sym (steps-zero l) d }) ∙ ap (walked l) (sym e)
 
@@ -77,7 +72,7 @@ module _ {xs : List ℤ} {ts ps : List ℕ} {q i : ℕ} (u : UserPlace xs ts ps 
   frame-here = system-user l q i (u .is) ∙ framed-at xs ts ps i in-preds
 
   link : predOf l q ≡ p
-  link = pred-here l q ∙ ap (λ (s : System). s .pred) frame-here
+  link = predOf-is l q ∙ ap (λ (s : System). s .pred) frame-here
 
   pub pred-there : p ≤ length l
   pred-there = rw (sym link) (pred-in-range l (u .laid .systems .preds) q)

@@ -9,7 +9,7 @@ use Rattle.model.specs.Limits.{maxSystems, offsetLimit}
 use Rattle.model.specs.Pose.{Pose, neutral, followed, rotOf}
 use Rattle.model.specs.Memory.{System, systemAt}
 use Rattle.model.specs.Chain.{steps, noRing, resultant}
-use Rattle.pose.specs.Poses.{poseOf, Within, reach}
+use Rattle.pose.specs.Poses.{Within, reach}
 use Rattle.chains.specs.declared.frames.Reached.{Reached}
 use Rattle.chains.specs.Frames.{offsetAt, turnsAt, framed}
 
@@ -23,7 +23,7 @@ pub record Walk : Type 0 where
   pub steps : ℕ
 
 abbrev pub walkOf : Reached → Walk
-walkOf r = record { pose = poseOf (r .pose); steps = r .steps }
+walkOf r = record { pose = record { at = r .at; rot = r .rot }; steps = r .steps }
 
 -- document 01's resultant and steps of the system at a place
 abbrev pub walked : List System → ℕ → Walk

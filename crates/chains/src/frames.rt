@@ -2,6 +2,7 @@
 use crate::links::held;
 use facts::limits::MAX_SYSTEMS;
 use model::Memory;
+use model::Rot;
 use model::Turns;
 use model::Vec3;
 use pose::Pose;
@@ -47,9 +48,11 @@ pub fn frames_of(m: Memory) -> Frames
     Frames { offsets, turns }
 }
 
-// What a walk has reached: the resultant, and how many links it followed.
+// What a walk has reached: the resultant's offset and rotation, and how many links it followed. (One row without gaps: a struct with a pose in it takes
+// longer to copy, and a walk copies what it has reached at every link.)
 pub struct Reached {
-    pub pose: Pose,
+    pub at: Vec3,
+    pub rot: Rot,
     pub steps: u8,
 }
 
@@ -75,7 +78,9 @@ pub fn unmoved() -> Reached
     ensures { λ r. ⌜ walkOf r ≡ atFixed ⌝ }
 {
     let pose = Pose::neutral();
-    Reached { pose, steps: 0 }
+    let at = pose.at;
+    let rot = pose.rot;
+    Reached { at, rot, steps: 0 }
 }
 
 // One link on: the own pose of system i followed on from what its predecessor reached.
@@ -84,10 +89,17 @@ fn linked(before: Reached, offsets: &[i64], turns: &[u8], i: usize) -> Reached
     ensures { λ r. ⌜ walkOf r ≡ linkOn (walkOf before) (poseAt (now (offsets .entry)) (now (turns .entry)) i) ⌝ }
 {
     let own_pose = own(offsets, turns, i);
-    let so_far = before.pose;
+    let near = before.at;
+    let turned = before.rot;
+    let so_far = Pose {
+        at: near,
+        rot: turned,
+    };
     let pose = so_far.follow(own_pose);
+    let at = pose.at;
+    let rot = pose.rot;
     let steps = before.steps + 1;
-    Reached { pose, steps }
+    Reached { at, rot, steps }
 }
 
 // The resultant of a place and its steps, by a walk to its predecessor with one link less of depth. It ends at the fixed system, or sooner at a

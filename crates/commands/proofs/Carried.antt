@@ -80,15 +80,16 @@ module _ (s : StoredState) (c : Change) (n : ℕ) (e : n ≡ first (changeLadder
   unfolding done Fits
   decides-put d k x z p named f q = rw p (decides-accepted (record { number = 0; deed = Put k; system = x }) (Put k) z (refl, refl, named) f q)
 
--- the only number of RPA and DPA
-module _ (level : ℕ) where
-  pub level-locked : level ≡ 0 → 9 ≡ first ((9, eqb level 0) ∷ [])
+-- a change whose only number is 9, for the level alone: RPA and DPA
+module _ (s : StoredState) (c : Change) (only : changeLadder (stateOf s) (memoryOf (s .volatile)) c ≡ (9, eqb (s .level) 0) ∷ []) (d : Decision) where
+  pub level-locked : s .level ≡ 0 → Decided 9 (SetError 9) d → Decides s c d
   unfolding first
-  level-locked e = rw (eq-eqb level 0 e, first)
+  level-locked e p = decides-refused s c 9 (rw (only, eq-eqb (s .level) 0 e, first) refl) d (λ z. omega arith) p
 
-  pub level-open : (level ≡ 0 → ⊥) → 0 ≡ first ((9, eqb level 0) ∷ [])
+  pub level-open : (s .level ≡ 0 → ⊥) → (deed : Deed) → Decided 0 deed d → Fits deed (s .volatile) →
+      done deed (systemOf (d .system)) (stateOf s) ≡ changed (stateOf s) (memoryOf (s .volatile)) c → Decides s c d
   unfolding first
-  level-open e = rw (ne-eqb level 0 e, first)
+  level-open e deed p f q = decides-accepted s c 0 (rw (only, ne-eqb (s .level) 0 e, first) refl) d deed refl p f q
 
 -- ---- the places of a change that is accepted
 

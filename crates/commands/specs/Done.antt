@@ -9,7 +9,7 @@ use Rattle.model.specs.Memory.{System, State, factory}
 use Rattle.model.specs.Request.{Change, asks, change}
 use Rattle.model.specs.Machine.{Outcome}
 use Rattle.model.specs.Effects.{withVolatile, withError, removedAt}
-use Rattle.model.specs.Stored.{systemOf, systemsOf, stateOf, nameShaped}
+use Rattle.model.specs.Stored.{systemOf, systemsOf, stateOf, nameShaped, shaped}
 use Rattle.memory.specs.Put.{putAt, holding}
 use Rattle.commands.specs.declared.changed.Deed.{Deed}
 use Rattle.commands.specs.declared.changed.Deed.the-variants.{Keep, SetError, Put, Remove, Enable, SetLevel, Save, Restore, Reset}
@@ -45,6 +45,11 @@ Fits Reset m = Unit {0}
 pub record Doable (m : StoredMemory) (d : Decision) : Type 0 where
   pub fits : Fits (d .deed) m
   pub named : nameShaped (d .system) ≡ true
+
+-- the stored state r is s once the decision is carried out; it has shape where s has
+pub record Applied (s : StoredState) (d : Decision) (r : StoredState) : Type 0 where
+  pub state : stateOf r ≡ done (d .deed) (systemOf (d .system)) (stateOf s)
+  pub shape : shaped s ≡ true → shaped r ≡ true
 
 -- [Errors, end] the outcome of a decision in a state, with so many bytes written and the lent buffer as it is then
 abbrev pub outcomeOf : Decision → State → ℕ → List ℕ → Outcome

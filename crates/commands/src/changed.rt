@@ -9,8 +9,8 @@ use model::State;
 use model::System;
 ghost use mathlib.Core.Path.{_≡_};
 ghost use mathlib.Core.Bool.{true};
-ghost use Rattle.model.specs.Stored.{systemOf, stateOf, nameShaped, shaped};
-ghost use Rattle.commands.specs.Done.{done, Doable};
+ghost use Rattle.model.specs.Stored.{nameShaped};
+ghost use Rattle.commands.specs.Done.{Doable, Applied};
 
 // What a line does to the state. Places and values are those that are set.
 pub enum Deed {
@@ -59,8 +59,7 @@ pub fn refused(number: u8) -> Decision
 // The state once it is done.
 pub fn applied(s: State, d: Decision) -> State
     requires { ⌜ Doable (s .volatile) d ⌝ }
-    ensures { λ r. ⌜ stateOf r ≡ done (d .deed) (systemOf (d .system)) (stateOf s) ⌝ }
-    ensures { λ r. ⌜ (shaped s ≡ true → shaped r ≡ true) ⌝ }
+    ensures { λ r. ⌜ Applied s d r ⌝ }
 {
     let mut volatile = s.volatile;
     let mut permanent = s.permanent;

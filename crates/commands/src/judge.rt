@@ -13,7 +13,6 @@ use model::Kind;
 use model::Memory;
 use model::Turns;
 use model::Vec3;
-ghost use mathlib.Core.Path.{_≡_};
 ghost use mathlib.Core.List.{List};
 ghost use Prim.Native.Nat.{ℕ, _≤_};
 ghost use Rattle.model.specs.Limits.{maxSystems};

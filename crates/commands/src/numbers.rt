@@ -12,7 +12,8 @@ ghost use mathlib.Core.List.{List, _∷_};
 ghost use Rattle.model.specs.Refusals.{Rung, first};
 ghost use Rattle.commands.specs.Rungs.{rungsOf};
 
-// Which conditions hold, in the order of their numbers. A number that a change does not know has a condition that is false.
+// Which conditions hold; the order in which they are tried is the definitions' `precedence`. A number that a change does not know has a condition that
+// is false.
 pub struct Rungs {
     pub absent: bool,
     pub reserved: bool,

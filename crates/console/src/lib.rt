@@ -59,7 +59,8 @@ fn serve(s: Session, block: &[u8], out: &mut [u8]) -> Served
     Served { session, ok: true }
 }
 
-// Blocks are read and served to the end of the input. A read or a write that fails ends the session, with a word on standard error.
+// Blocks are read and served to the end of the input. A read or a write that fails ends the session, with a word on standard error. Nothing says that the
+// input ends, so the turns are counted down, from a number that no run uses up.
 pub fn run() {
     let mut input = io::large_buffer();
     let mut output = io::large_buffer();

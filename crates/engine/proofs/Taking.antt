@@ -19,7 +19,7 @@ use Rattle.commands.specs.declared.changed.Deed.the-variants.{Keep, SetError}
 use Rattle.commands.specs.declared.subject.Looked.{Looked}
 use Rattle.commands.specs.Obeyed.{obeyed}
 use Rattle.commands.specs.Subject.{Sees}
-use Rattle.commands.specs.Done.{done, Fits, Decides}
+use Rattle.commands.specs.Done.{done, Fits, Decides, Applied}
 use Rattle.engine.specs.declared.answer.Step.{Step}
 use Rattle.engine.specs.Answers.{answeredOf}
 use Rattle.engine.specs.Taken.{Takes}
@@ -84,9 +84,9 @@ list-taken s m e q z r k b c p w =
 
 -- a step taken, carried out on the whole state: an answer
 pub taken-answers : {s : StoredState} {o : Outcome} {r : Step} {b : List ℕ} (t : StoredState) →
-    Takes s o r b → stateOf t ≡ done (r .decision .deed) (systemOf (r .decision .system)) (stateOf s) → shaped t ≡ true →
+    Takes s o r b → Applied s (r .decision) t → shaped s ≡ true →
     answeredOf (record { state = t; number = r .decision .number; length = r .length }) b ≡ ofOutcome o
-taken-answers {s} {o} {r} {b} t taken is shape =
-    answer-holds (record { state = t; number = r .decision .number; length = r .length }) b shape
-    ∙ ap (λ (st : State). ofOutcome (record { state = st; number = r .decision .number; count = r .length; buffer = b })) is
+taken-answers {s} {o} {r} {b} t taken applied shape =
+    answer-holds (record { state = t; number = r .decision .number; length = r .length }) b (applied .shape shape)
+    ∙ ap (λ (st : State). ofOutcome (record { state = st; number = r .decision .number; count = r .length; buffer = b })) (applied .state)
     ∙ ap ofOutcome (taken .outcome)

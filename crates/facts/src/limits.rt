@@ -1,4 +1,4 @@
-// The limits, each as `Limits` of the definitions has it.
+// The limits, each as `Limits` of the definitions has it; how many axes there are; and what follows from these.
 
 // User systems in a memory; also the links of the longest chain.
 pub const MAX_SYSTEMS: usize = 16;
@@ -17,6 +17,11 @@ pub const MILLION: u64 = 1000000;
 
 // A quarter turn, in millionths of a degree.
 pub const QUARTER_TURN: u64 = 90000000;
+
+// Own turns about an axis, in quarters, and how many quarters are a whole turn.
+pub const MOST_TURNS: u8 = 3;
+
+pub const WHOLE_TURN: u8 = 4;
 
 // The axes X Y Z U V W.
 pub const AXES: usize = 6;

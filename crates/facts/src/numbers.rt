@@ -1,4 +1,4 @@
-// The refusal numbers, in the order in which they are tried, and which of them a line can leave as the last error.
+// The numbers of the calls, and which of them a line can leave as the last error.
 ghost use mathlib.Core.Path.{_≡_};
 ghost use Rattle.model.specs.Refusals.{ofLine?};
 

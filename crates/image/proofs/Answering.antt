@@ -12,14 +12,15 @@ use Rattle.model.specs.WellFormed.{memoryFine}
 use Rattle.model.specs.Stored.{memoryOf, memoryShaped}
 use Rattle.model.specs.Image.{readMemory, whollyRead, accepted}
 use Rattle.model.proofs.Basics.{true-false}
+use Rattle.model.proofs.Told.{tells-some, refuses-none}
 use Rattle.image.specs.declared.ImageRead.{ImageRead}
 use Rattle.image.specs.Accepted.{Answers, Refuses}
 
 pub refuses : (bs : List ℕ) (r : ImageRead) → Refuses r → accepted bs ≡ none → Answers bs r
-refuses bs r f e = record { is = rw (f .not-ok) (sym e); factory-else = λ q. f .memory; shaped = f .shaped }
+refuses bs r f e = record { told = rw (f .not-ok) (refuses-none 14 e); factory-else = λ q. f .memory; shaped = f .shaped }
 
 pub accepts : (bs : List ℕ) (r : ImageRead) → r .ok ≡ true → memoryShaped (r .memory) ≡ true → accepted bs ≡ some (memoryOf (r .memory)) → Answers bs r
-accepts bs r k s e = record { is = rw k (sym e); factory-else = λ q. true-false (sym k ∙ q); shaped = s }
+accepts bs r k s e = record { told = rw k (tells-some 14 e); factory-else = λ q. true-false (sym k ∙ q); shaped = s }
 
 pub unread : (bs : List ℕ) → readMemory bs ≡ none → accepted bs ≡ none
 unfolding accepted whollyRead

@@ -12,14 +12,16 @@ use Rattle.model.specs.Image.{whole, numbers}
 use Rattle.print.specs.Over.{over, Wrote}
 use Rattle.print.proofs.Laws.{length-over, over-append, over-front}
 
--- of the text t, to be written at a place of b, the rest is left to write at i of a
+-- of the text t, to be written at a place of b, the rest is left to write at i of a, which has room for it
 pub record Left (t : List ℕ) (at : ℕ) (b rest : List ℕ) (i : ℕ) (a : List ℕ) : Type 0 where
   pub long : length a ≡ length b
   pub place : i + length rest ≡ at + length t
   pub bytes : over b at t ≡ over a i rest
+  pub room : i + length rest ≤ length a
 
-pub left-all : (t : List ℕ) (at : ℕ) (b : List ℕ) → Left t at b t at b
-left-all t at b = record { long = refl; place = refl; bytes = refl }
+-- at first all of it, given as its parts
+pub left-all : {t parts b : List ℕ} {at : ℕ} → t ≡ parts → at + length t ≤ length b → Left t at b parts at b
+left-all e h = rw e (record { long = refl; place = refl; bytes = refl; room = rw e at h })
 
 module _ {t b a : List ℕ} {at i : ℕ} where
   pub left-done : Left t at b [] i a → Wrote t b at a i
@@ -28,18 +30,27 @@ module _ {t b a : List ℕ} {at i : ℕ} where
 
   pub left-byte : {x : ℕ} {rest : List ℕ} → Left t at b (x ∷ rest) i a → Left t at b rest (i + 1) (set a i x)
   unfolding over
-  left-byte {x} l = record { long = length-set a i x ∙ l .long; place = omega (arith, l .place); bytes = l .bytes }
-
-  pub left-wrote : {x rest c : List ℕ} {j : ℕ} → Left t at b (x ++ rest) i a → Wrote x a i c j → Left t at b rest j c
-  left-wrote {x} {rest} {c} {j} l p = record {
-    long = rw (p .bytes) (length-over x a i ∙ l .long);
-    place = omega (arith, l .place, p .place, length-append x rest);
-    bytes = l .bytes ∙ rw (p .bytes, p .place) (over-append x rest a i);
+  left-byte {x} l = record {
+    long = length-set a i x ∙ l .long;
+    place = omega (arith, l .place);
+    bytes = l .bytes;
+    room = omega (arith, length-set a i x, l .room);
   }
 
-  -- there is room for the next part, where there was for the whole
-  pub left-fits : (x rest : List ℕ) → Left t at b (x ++ rest) i a → at + length t ≤ length b → i + length x ≤ length a
-  left-fits x rest l h = omega (arith, l .long, l .place, length-append x rest)
+  pub left-wrote : {x rest c : List ℕ} {j : ℕ} → Left t at b (x ++ rest) i a → Wrote x a i c j → Left t at b rest j c
+  left-wrote {x} {rest} {c} {j} l p =
+      let n = length-append x rest in
+      let k : length c ≡ length a = rw (p .bytes) (length-over x a i) in
+      record {
+        long = k ∙ l .long;
+        place = omega (arith, l .place, p .place);
+        bytes = l .bytes ∙ rw (p .bytes, p .place) (over-append x rest a i);
+        room = omega (arith, l .room, p .place);
+      }
+
+  -- so there is room for the next part
+  pub left-fits : (x rest : List ℕ) → Left t at b (x ++ rest) i a → i + length x ≤ length a
+  left-fits x rest l = omega (arith, l .room, length-append x rest)
 
 -- written from the start
 pub wrote-front : (t b a : List ℕ) (next : ℕ) → length t ≤ length b → Wrote t b 0 a next → (a ≡ written t b) × (next ≡ length t)

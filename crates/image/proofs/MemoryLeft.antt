@@ -18,8 +18,8 @@ use Rattle.model.specs.Image.{edition, signedCode, numbers, systemBytes, enable
 use Rattle.model.specs.Stored.{systemOf, systemsOf, memoryOf, memoryShaped}
 use Rattle.model.proofs.Basics.{all-at}
 use Rattle.model.proofs.Image.Limits.{system-within, parts}
-use Rattle.memory.proofs.Laws.{getD-any, length-systems, system-at}
-use Rattle.memory.proofs.Shape.{shaped-count}
+use Rattle.memory.proofs.Laws.{getD-any, system-at}
+use Rattle.model.proofs.Shape.{shaped-count, systemsOf-count}
 
 code-large : (z : ℤ) → natAbs z ≤ signedCode z + 1
 code-large (pos n) = omega arith
@@ -29,9 +29,6 @@ module _ (m : StoredMemory) (long : length (m .systems) ≡ maxSystems) (shaped 
   counted : m .count ≡ min (m .count) maxSystems
   counted = omega (arith, shaped-count m shaped)
 
-  pub stored-count : length (systemsOf m) ≡ m .count
-  stored-count = length-systems m (m .count) long counted
-
   stored-system : (i : ℕ) (d : StoredSystem) → i < m .count → getD (systemsOf m) i blank ≡ systemOf (getD (m .systems) i d)
   stored-system i d h =
       system-at m (m .count) long counted i h ∙ ap systemOf (getD-any (m .systems) i _ d (omega (arith, shaped-count m shaped)))
@@ -40,13 +37,13 @@ module _ (m : StoredMemory) (long : length (m .systems) ≡ maxSystems) (shaped 
       → joined (map systemBytes (drop i (systemsOf m))) ≡ systemBytes (systemOf (getD (m .systems) i d)) ++ joined (map systemBytes (drop (i + 1) (systemsOf m)))
   unfolding joined
   systems-turn i d h =
-      let l : i < length (systemsOf m) = omega (arith, stored-count) in
+      let l : i < length (systemsOf m) = omega (arith, systemsOf-count m shaped long) in
       rw (drop-cons (systemsOf m) i blank l, stored-system i d h, add-one)
 
   pub systems-end : (i : ℕ) → m .count ≤ i → joined (map systemBytes (drop i (systemsOf m))) ≡ []
   unfolding joined
   systems-end i h =
-      let l : length (systemsOf m) ≤ i = omega (arith, stored-count) in
+      let l : length (systemsOf m) ≤ i = omega (arith, systemsOf-count m shaped long) in
       rw (drop-of-length-le (systemsOf m) l)
 
   -- the offsets of a well-formed memory are small
@@ -54,7 +51,7 @@ module _ (m : StoredMemory) (long : length (m .systems) ≡ maxSystems) (shaped 
       let o = getD (m .systems) i d .offset in (natAbs (o .x) < 2 ^ 62) × (natAbs (o .y) < 2 ^ 62) × (natAbs (o .z) < 2 ^ 62)
       )
   offsets-small f i d h =
-      let l : i < length (systemsOf m) = omega (arith, stored-count) in
+      let l : i < length (systemsOf m) = omega (arith, systemsOf-count m shaped long) in
       let s = rw (stored-system i d h) at (all-at (systemFine (systemsOf m)) (systemsOf m) blank i (parts (memoryOf m) f .fine) l) in
       let w = system-within (systemsOf m) (systemOf (getD (m .systems) i d)) s in
       let o = getD (m .systems) i d .offset in
@@ -63,4 +60,4 @@ module _ (m : StoredMemory) (long : length (m .systems) ≡ maxSystems) (shaped 
   -- the parts of the image
   pub image-parts : image (memoryOf m) ≡ numbers (edition ∷ m .count ∷ []) ++ (joined (map systemBytes (systemsOf m)) ++ (enabledBytes (m .enabled) ++ []))
   unfolding image joined
-  image-parts = rw stored-count
+  image-parts = rw (systemsOf-count m shaped long)

@@ -10,7 +10,8 @@ use Rattle.model.specs.declared.Kind.{Kind}
 use Rattle.model.specs.declared.Group.{Group}
 use Rattle.model.specs.Kinds.{kinds}
 use Rattle.model.specs.Image.{give, give?, several, mostByte, mostOffset, kindOf, readName, systemFrom, readPlaced, readSystem}
-use Rattle.model.proofs.Image.Readers.{then, then-none, give-some, give-none, nothing, one-read}
+use Rattle.model.proofs.Basics.{none-some}
+use Rattle.model.proofs.Image.Readers.{then, then-none, give-some, give-none, one-read}
 use Rattle.image.specs.Codes.{kindCoded}
 
 -- ---- the type of a code
@@ -20,7 +21,7 @@ unfolding kindCoded
 coded-kind c k g e = cases (kindOf kinds c) refl
   where
     cases : (o : Option Kind) → kindOf kinds c ≡ o → kindOf kinds c ≡ some k
-    cases none q = nothing (rw (q, kindCoded) at e)
+    cases none q = none-some (rw (q, kindCoded) at e)
     cases (some j) q = q ∙ ap some (one-read (rw (q, kindCoded) at e) .0)
 
 pub coded-none : (c : ℕ) → kindCoded c ≡ none → kindOf kinds c ≡ none
@@ -29,7 +30,7 @@ coded-none c e = cases (kindOf kinds c) refl
   where
     cases : (o : Option Kind) → kindOf kinds c ≡ o → kindOf kinds c ≡ none
     cases none q = q
-    cases (some j) q = nothing (sym (rw (q, kindCoded) at e))
+    cases (some j) q = none-some (sym (rw (q, kindCoded) at e))
 
 -- ---- after the name
 

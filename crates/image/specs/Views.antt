@@ -39,8 +39,8 @@ abbrev pub numbersTold : List ℕ → ℕ → Numbers → Told (List ℕ × List
 numbersTold bs count r = toldIf (r .ok) (take count (r .values), drop (r .next) bs)
 
 -- a name
-abbrev pub nameTold : List ℕ → NameRead → Told (List ℕ × List ℕ)
-nameTold bs r = toldIf (r .ok) (bytesOf (r .name), drop (r .next) bs)
+abbrev pub storedNameTold : List ℕ → NameRead → Told (List ℕ × List ℕ)
+storedNameTold bs r = toldIf (r .ok) (bytesOf (r .name), drop (r .next) bs)
 
 -- a system
 abbrev pub systemTold : List ℕ → SystemRead → Told (System × List ℕ)

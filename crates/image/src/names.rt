@@ -9,7 +9,7 @@ ghost use lib.ListN.{length, take, drop};
 ghost use Rattle.model.specs.Limits.{nameLimit};
 ghost use Rattle.model.specs.Told.{orNumber};
 ghost use Rattle.model.specs.Image.{readName};
-ghost use Rattle.image.specs.Views.{nameTold};
+ghost use Rattle.image.specs.Views.{storedNameTold};
 
 // A name, and the place after it.
 pub struct NameRead {
@@ -51,7 +51,7 @@ fn unread() -> NameRead
 
 // A name of that length at a place.
 pub fn read_name(bytes: &[u8], at: usize, len: u64) -> NameRead
-    ensures { λ r. ⌜ (nameTold (now (bytes .entry)) r ≡ orNumber 14 (readName len (drop at (now (bytes .entry))))) × (r .name .len ≤ nameLimit) ⌝ }
+    ensures { λ r. ⌜ (storedNameTold (now (bytes .entry)) r ≡ orNumber 14 (readName len (drop at (now (bytes .entry))))) × (r .name .len ≤ nameLimit) ⌝ }
 {
     let n = len as usize;
     if NAME_LIMIT < n {

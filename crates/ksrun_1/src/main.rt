@@ -1,4 +1,4 @@
-// ksrun on a shared vector.
+// ksrun on a session of the shared vectors, as it is: its last line has no LF.
 fn main() {
     console::run()
 }

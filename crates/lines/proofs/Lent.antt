@@ -1,7 +1,7 @@
 -- What a call shows does not depend on what the lent buffer holds.
 use Prim.Native.Nat.{ℕ}
 use mathlib.Core.Path.{_≡_, refl, sym, ap, _∙_}
-use mathlib.Core.List.{List, []}
+use mathlib.Core.List.{List}
 use mathlib.Core.Bool.{Bool, true, false}
 use mathlib.Core.Logic.{⊎-elim}
 use lib.Dec.{eqb}
@@ -9,13 +9,11 @@ use lib.ListN.{length, take, drop}
 use lib.Seq.{take-append-seam}
 use borrow.Author.Tests.{eqb-true}
 use Rattle.model.proofs.Basics.{either}
-use Rattle.model.proofs.Ladder.Refusing.{step-fine, step-ill, judged-taken, judged-refused}
+use Rattle.model.proofs.Ladder.Refusing.{step-fine, step-ill, judged-taken, judged-refused, carried-answers}
 use Rattle.model.specs.Memory.{State}
 use Rattle.model.specs.WellFormed.{wellFormed}
-use Rattle.model.specs.Request.{Reading, reading, unknown, malformed, beyond, asks}
+use Rattle.model.specs.Request.{Reading, reading}
 use Rattle.model.specs.Refusals.{refusal, ladder, short}
-use Rattle.model.specs.Effects.{next}
-use Rattle.model.specs.Reply.{reply}
 use Rattle.model.specs.Image.{image}
 use Rattle.model.specs.Machine.{Outcome, stepped, judged, carriedOut, answered, refused, written, writeImage}
 
@@ -36,11 +34,7 @@ shown-answered : (st : State) (t b c : List ℕ) → shown (answered st t b) ≡
 shown-answered st t b c = ap {B = Shown} (λ (x : List ℕ). record { state = st; number = 0; text = x }) (text-answered t b ∙ sym (text-answered t c))
 
 shown-carried : (st : State) (r : Reading) (b c : List ℕ) → shown (carriedOut st r b) ≡ shown (carriedOut st r c)
-unfolding carriedOut
-shown-carried st unknown b c = shown-answered st [] b c
-shown-carried st malformed b c = shown-answered st [] b c
-shown-carried st beyond b c = shown-answered st [] b c
-shown-carried st (asks r) b c = shown-answered (next st (st .volatile) r) (reply st (st .volatile) r) b c
+shown-carried st r b c = let a = carried-answers st r in rw (a .2 b, a .2 c) (shown-answered (a .0) (a .1) b c)
 
 -- one number, and where it is 0 one reading, show the same, whatever is lent
 shown-judged : (st : State) (n : ℕ) (r q : Reading) (b c : List ℕ) → (n ≡ 0 → r ≡ q) → shown (judged st n r b) ≡ shown (judged st n q c)

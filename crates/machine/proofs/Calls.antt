@@ -1,21 +1,23 @@
 -- What the public calls give in a well-formed state, and what a start gives.
 use Prim.Native.Nat.{ℕ}
-use mathlib.Core.Path.{_≡_, refl, sym, ap, _∙_}
+use mathlib.Core.Path.{_≡_, refl}
 use mathlib.Core.List.{List}
 use mathlib.Core.Option.{some, none}
-use mathlib.Core.Bool.{true, false, cond}
+use mathlib.Core.Bool.{true, false}
 use Rattle.model.specs.declared.State.{State as StoredState}
 use Rattle.model.specs.declared.Memory.{Memory as StoredMemory}
-use Rattle.model.specs.Memory.{Memory, started, factory}
+use Rattle.model.specs.Memory.{started}
 use Rattle.model.specs.Refusals.{short}
 use Rattle.model.specs.Image.{image, accepted}
-use Rattle.model.specs.Machine.{stepped, restart, writeImage, startImage, startFactory, began, answered, refused}
-use Rattle.model.specs.Stored.{FineState, View, holds, ofOutcome, ofBegun, memoryShaped, shaped, stateOf, memoryOf, viewOf, lineAnswer, imageAnswer, restartAnswer}
+use Rattle.model.specs.Machine.{stepped, writeImage, startImage, answered}
+use Rattle.model.specs.Stored.{FineState, holds, ofOutcome, ofBegun, memoryShaped, stateOf, memoryOf, viewOf, lineAnswer, imageAnswer, restartAnswer}
 use Rattle.model.proofs.Ladder.Exact.{start-none, start-some}
+use Rattle.model.proofs.Ladder.Refusing.{restart-fine, image-short, image-fine}
 use Rattle.image.specs.declared.ImageRead.{ImageRead}
 use Rattle.image.specs.Accepted.{Answers}
 use Rattle.machine.specs.Calls.{startedWith, begunOf}
 use Rattle.memory.proofs.Shape.{shape-both, shape-parts}
+use Rattle.model.proofs.Told.{told-value}
 use Rattle.model.proofs.Views.{view-holds}
 
 module _ (s : StoredState) (f : FineState s) where
@@ -23,26 +25,18 @@ module _ (s : StoredState) (f : FineState s) where
   unfolding lineAnswer
   line-fine l b = rw (view-holds s (f .shape)) refl
 
-  image-fine : (b : List ℕ) → imageAnswer (viewOf s) b ≡ ofOutcome (writeImage (stateOf s) b)
+  image-is : (b : List ℕ) → imageAnswer (viewOf s) b ≡ ofOutcome (writeImage (stateOf s) b)
   unfolding imageAnswer
-  image-fine b = rw (view-holds s (f .shape)) refl
-
-  image-short : (b : List ℕ) → short b ≡ true → writeImage (stateOf s) b ≡ refused (stateOf s) 2 b
-  unfolding writeImage
-  image-short b e = rw (f .formed, writeImage) (rw e)
-
-  image-long : (b : List ℕ) → short b ≡ false → writeImage (stateOf s) b ≡ answered (stateOf s) (image (stateOf s .permanent)) b
-  unfolding writeImage
-  image-long b e = rw (f .formed, writeImage) (rw e)
+  image-is b = rw (view-holds s (f .shape)) refl
 
   -- [Error 2]
   pub image-refused : (b : List ℕ) → short b ≡ true → record { state = viewOf s; number = 2; count = 0; buffer = b } ≡ imageAnswer (viewOf s) b
-  image-refused b e = rw (image-fine b, image-short b e, view-holds s (f .shape)) refl
+  image-refused b e = rw (image-is b, image-short (stateOf s) b (f .formed) e, view-holds s (f .shape)) refl
 
   -- [Image] accepted: the image of the permanent memory
   pub image-taken : (b c : List ℕ) (n : ℕ) → short b ≡ false → c ≡ answered (stateOf s) (image (stateOf s .permanent)) b .buffer →
       n ≡ answered (stateOf s) (image (stateOf s .permanent)) b .count → record { state = viewOf s; number = 0; count = n; buffer = c } ≡ imageAnswer (viewOf s) b
-  image-taken b c n e p q = rw (image-fine b, image-long b e, view-holds s (f .shape), p, q) refl
+  image-taken b c n e p q = rw (image-is b, image-fine (stateOf s) b (f .formed) e, view-holds s (f .shape), p, q) refl
 
 -- ---- starts
 
@@ -51,18 +45,18 @@ start-holds m p = view-holds (startedWith m) (shape-both (startedWith m) p p)
 
 -- [Memory 4] a restart that is taken
 pub restart-taken : (s : StoredState) → FineState s → begunOf (record { state = startedWith (s .permanent); number = 0 }) ≡ restartAnswer (viewOf s)
-unfolding restartAnswer restart
-restart-taken s f = rw (view-holds s (f .shape), start-holds (s .permanent) (shape-parts s (f .shape) .1)) (rw (f .formed, restart))
+unfolding restartAnswer
+restart-taken s f = rw (view-holds s (f .shape), start-holds (s .permanent) (shape-parts s (f .shape) .1), restart-fine (stateOf s) (f .formed)) refl
 
 module _ (bs : List ℕ) (r : ImageRead) (a : Answers bs r) where
   -- [Image] accepted
   pub start-taken : r .ok ≡ true → record { state = viewOf (startedWith (r .memory)); number = 0 } ≡ ofBegun (startImage bs)
   start-taken e =
-      let is : accepted bs ≡ some (memoryOf (r .memory)) = sym (a .is) ∙ rw e refl in
+      let is : accepted bs ≡ some (memoryOf (r .memory)) = told-value 14 _ _ (rw e at (a .told)) in
       rw (start-some bs (memoryOf (r .memory)) is, start-holds (r .memory) (a .shaped)) refl
 
   -- [Error 14]
   pub start-refused : r .ok ≡ false → record { state = viewOf (startedWith (r .memory)); number = 14 } ≡ ofBegun (startImage bs)
   start-refused e =
-      let is : accepted bs ≡ none = sym (a .is) ∙ rw e refl in
+      let is : accepted bs ≡ none = told-value 14 _ _ (rw e at (a .told)) in
       rw (start-none bs is, start-holds (r .memory) (a .shaped), a .factory-else e) refl

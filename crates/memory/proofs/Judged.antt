@@ -15,8 +15,7 @@ use Rattle.model.specs.Refusals.{ofLine?}
 use Rattle.model.specs.Chain.{noRing}
 use Rattle.model.specs.WellFormed.{systemFine, namesDiffer, enabledFine, memoryFine, wellFormed}
 use Rattle.model.specs.Stored.{systemOf, systemsOf, memoryOf, stateOf, nameShaped, memoryShaped, shaped}
-use Rattle.model.proofs.Basics.{and-assoc}
-use Rattle.text.proofs.Lists.{and-true, and-false}
+use Rattle.model.proofs.Basics.{and-assoc, and-true, and-false}
 use Rattle.memory.specs.Fine.{storedFine, storedAllFine}
 
 and-swap : (a b c d : Bool) → (a && b) && (c && d) ≡ (a && c) && (b && d)

@@ -19,7 +19,7 @@ use Rattle.model.proofs.Basics.{true-false, and-split, least-is, least-hit}
 use Rattle.chains.proofs.Copies.{unset}
 use Rattle.memory.specs.Found.{Stands}
 use Rattle.memory.proofs.Laws.{length-systems, system-at}
-use Rattle.memory.proofs.Shape.{shaped-at, shaped-count}
+use Rattle.model.proofs.Shape.{shaped-at, shaped-count}
 
 -- the system at index j has the name
 abbrev has : List System → List ℕ → ℕ → Bool

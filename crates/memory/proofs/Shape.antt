@@ -1,22 +1,22 @@
 -- Shape is kept where a system with shape is stored.
-use Prim.Native.Nat.{ℕ, zero, suc, _+_, _<_, _≤_}
+use Prim.Native.Nat.{ℕ, zero, suc, _+_, _<_}
 use mathlib.Core.Path.{_≡_, refl}
 use mathlib.Core.List.{List, [], _∷_}
 use mathlib.Core.Bool.{Bool, true}
 use native.Mathlib.Omega.{arith}
 use native.Mathlib.Decide.{decLt}
 use native.Mathlib.Numerals.{add-one}
-use borrow.Author.Tests.{le-leb, leb-true}
-use lib.Dec.{leb}
-use lib.ListN.{length, take, getD, set}
-use lib.Seq.{take-set-lt, take-set-le, take-suc-set, getD-take, length-take-le}
+use borrow.Author.Tests.{le-leb}
+use lib.ListN.{length, take, set}
+use lib.Seq.{take-set-lt, take-set-le, take-suc-set}
 use Rattle.model.specs.Limits.{maxSystems}
 use Rattle.model.specs.declared.System.{System as StoredSystem}
 use Rattle.model.specs.declared.Memory.{Memory as StoredMemory}
 use Rattle.model.specs.declared.State.{State as StoredState}
 use Rattle.model.specs.Lists.{all}
 use Rattle.model.specs.Stored.{nameShaped, memoryShaped, shaped}
-use Rattle.model.proofs.Basics.{and-split, and-join, all-append, all-at}
+use Rattle.model.proofs.Basics.{and-split, and-join, all-append}
+use Rattle.model.proofs.Shape.{shaped-count, shaped-names}
 
 module _ {A : Type 0} (p : A → Bool) (a : A) (pa : p a ≡ true) where
   all-set : (l : List A) (i : ℕ) → all p l ≡ true → all p (set l i a) ≡ true
@@ -37,30 +37,15 @@ module _ {A : Type 0} (p : A → Bool) (a : A) (pa : p a ≡ true) where
   unfolding all
   all-more l n h e = rw (add-one, take-suc-set l n a, all-append p (take n l) (a ∷ [])) (and-join e (and-join pa refl))
 
-module _ (m : StoredMemory) (e : memoryShaped m ≡ true) where
-  pub shaped-count : m .count ≤ maxSystems
+module _ (m : StoredMemory) (e : memoryShaped m ≡ true) (s : StoredSystem) (es : nameShaped s ≡ true) where
+  pub shaped-set : (i : ℕ) → memoryShaped (record { systems = set (m .systems) i s; count = m .count; enabled = m .enabled }) ≡ true
   unfolding memoryShaped
-  shaped-count = leb-true (m .count) maxSystems (and-split _ _ e .0)
+  shaped-set i = and-join (le-leb (m .count) maxSystems (shaped-count m e)) (all-take-set nameShaped s es (m .systems) (m .count) i (shaped-names m e))
 
-  shaped-names : all nameShaped (take (m .count) (m .systems)) ≡ true
+  pub shaped-more : m .count < maxSystems → m .count < length (m .systems)
+      → memoryShaped (record { systems = set (m .systems) (m .count) s; count = m .count + 1; enabled = m .enabled }) ≡ true
   unfolding memoryShaped
-  shaped-names = and-split (leb (m .count) maxSystems) _ e .1
-
-  -- a stored system of a memory with shape has shape
-  pub shaped-at : (d : StoredSystem) (i : ℕ) → i < m .count → m .count ≤ length (m .systems) → nameShaped (getD (m .systems) i d) ≡ true
-  shaped-at d i h k =
-      let n = length-take-le (m .count) (m .systems) k in
-      rw (getD-take (m .count) (m .systems) i d h) at (all-at nameShaped (take (m .count) (m .systems)) d i shaped-names (omega arith))
-
-  module _ (s : StoredSystem) (es : nameShaped s ≡ true) where
-    pub shaped-set : (i : ℕ) → memoryShaped (record { systems = set (m .systems) i s; count = m .count; enabled = m .enabled }) ≡ true
-    unfolding memoryShaped
-    shaped-set i = and-join (le-leb (m .count) maxSystems shaped-count) (all-take-set nameShaped s es (m .systems) (m .count) i shaped-names)
-
-    pub shaped-more : m .count < maxSystems → m .count < length (m .systems)
-        → memoryShaped (record { systems = set (m .systems) (m .count) s; count = m .count + 1; enabled = m .enabled }) ≡ true
-    unfolding memoryShaped
-    shaped-more h k = and-join (le-leb (m .count + 1) maxSystems (omega arith)) (all-more nameShaped s es (m .systems) (m .count) k shaped-names)
+  shaped-more h k = and-join (le-leb (m .count + 1) maxSystems (omega arith)) (all-more nameShaped s es (m .systems) (m .count) k (shaped-names m e))
 
 -- ---- a state
 

@@ -1,5 +1,7 @@
 // What is enabled next.
 use crate::find::Found;
+use facts::halves::tool_half;
+use facts::halves::work_half;
 use model::Enabled;
 use model::Group;
 use model::Kind;
@@ -7,28 +9,10 @@ use model::OperatingPart;
 ghost use mathlib.Core.Path.{_≡_};
 ghost use mathlib.Core.List.{List};
 ghost use Rattle.model.specs.Memory.{System as SystemOf, refOr, systemAt};
-ghost use Rattle.model.specs.Effects.{workHalf, toolHalf, withOperating, withOrientational, withLevelling, enabledUser, enabledFixed, enabling};
+ghost use Rattle.model.specs.Effects.{withOperating, withOrientational, withLevelling, enabledUser, enabledFixed, enabling};
 ghost use Rattle.model.specs.Use.{inGroup};
 ghost use Rattle.memory.specs.Found.{foundRef, foundPlace};
 ghost use Rattle.memory.specs.Put.{holding};
-
-fn work_half(o: OperatingPart) -> u8
-    ensures { λ r. ⌜ r ≡ workHalf o ⌝ }
-{
-    match o {
-        OperatingPart::Single(_) => 0,
-        OperatingPart::Pair(w, _) => w,
-    }
-}
-
-fn tool_half(o: OperatingPart) -> u8
-    ensures { λ r. ⌜ r ≡ toolHalf o ⌝ }
-{
-    match o {
-        OperatingPart::Single(_) => 0,
-        OperatingPart::Pair(_, t) => t,
-    }
-}
 
 fn with_operating(e: Enabled, operating: OperatingPart) -> Enabled
     ensures { λ r. ⌜ r ≡ withOperating e operating ⌝ }

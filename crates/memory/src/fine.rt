@@ -8,6 +8,7 @@ use chains::links::links_of;
 use chains::links::no_ring;
 use facts::kinds::turns_only;
 use facts::limits::MAX_SYSTEMS;
+use facts::limits::MOST_TURNS;
 use facts::limits::NAME_LIMIT;
 use facts::numbers::ACCEPTED;
 use facts::numbers::of_line;
@@ -47,7 +48,7 @@ fn no_offset(t: Vec3) -> bool
 fn turns_fine(t: Turns) -> bool
     ensures { λ r. ⌜ r ≡ turnsFine t ⌝ }
 {
-    (t.u <= 3) & (t.v <= 3) & (t.w <= 3)
+    (t.u <= MOST_TURNS) & (t.v <= MOST_TURNS) & (t.w <= MOST_TURNS)
 }
 
 // What is asked of a system by itself.

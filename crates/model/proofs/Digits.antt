@@ -1,8 +1,8 @@
 -- Laws of digits (specs/Reply.antt): how many a number has, and how they go on after the first ones.
 use Prim.Native.Nat.{ℕ, zero, suc, _+_, _-_, _/_, _%_, _^_, _≤_, _<_}
 use mathlib.Core.Path.{_≡_, refl, sym, ap, _∙_}
-use mathlib.Core.Bool.{Bool, true, false}
-use mathlib.Core.List.{List, [], _∷_, _++_}
+use mathlib.Core.Bool.{Bool}
+use mathlib.Core.List.{List, _∷_, _++_}
 use native.Mathlib.Nat.{add-comm, suc-add, div-div-eq-div-mul, div-mul-le-self, lt-div-mul-add, le-div-iff-mul-le, mul-le-mul-right, pow-suc, pow-le-pow-right, one-le-pow}
 use native.Mathlib.Decide.{decLt}
 use native.Mathlib.Omega.{arith}

@@ -106,7 +106,7 @@ pub record AsksNothingIllegal : Type 0 where
 -- [Memory 4; Two lists 1] by every call, from either start, and so by every list of calls
 pub record WellFormedKept : Type 0 where
   pub line : (st : State) (bytes b : List ℕ) → wellFormed st ≡ true → wellFormed (stepped st bytes b .state) ≡ true
-  pub again : (st : State) → wellFormed st ≡ true → wellFormed (restart st .state) ≡ true
+  pub restarting : (st : State) → wellFormed st ≡ true → wellFormed (restart st .state) ≡ true
   pub factory : wellFormed startFactory ≡ true
   pub image : (bytes : List ℕ) → wellFormed (startImage bytes .state) ≡ true
   pub calls : (st : State) (cs : List Call) → wellFormed st ≡ true → wellFormed (afterCalls st cs) ≡ true

@@ -3,7 +3,7 @@
 -- what such states stand for. The statements only; they are proved in proofs/Histories.
 use Prim.Native.Nat.{_≤_, _<_}
 use mathlib.Core.Path.{_≡_}
-use Rattle.model.specs.Base.{ℕ, List, [], _∷_, map, Bool, true, false, not, _&&_, some, eqb, length, take}
+use Rattle.model.specs.Base.{ℕ, List, [], _∷_, map, Bool, true, not, _&&_, some, eqb, length, take}
 use Rattle.model.specs.Types.{StoredState}
 use Rattle.model.specs.Ascii.{ascii}
 use Rattle.model.specs.Limits.{bufferLimit}
@@ -12,7 +12,7 @@ use Rattle.model.specs.Request.{reading}
 use Rattle.model.specs.Reply.{listing, everySystem, resultantLine}
 use Rattle.model.specs.Image.{accepted}
 use Rattle.model.specs.Machine.{startFactory, startImage}
-use Rattle.model.specs.Trace.{Call, Line, line, again}
+use Rattle.model.specs.Trace.{Call, Line, line, restarting}
 use Rattle.model.specs.Demand.{Start, factory-start, image-start, asksToEnable, AfterBoth}
 use Rattle.model.specs.Checklist.{Checked}
 use Rattle.model.specs.Stored.{stateOf, viewOf, holds, Answered, Restarted, ofBegun, lineAnswer, imageAnswer, restartAnswer}
@@ -63,7 +63,7 @@ pub data Begins : Start → StoredState → Type 0 where
 pub data Calls : StoredState → List Call → StoredState → Type 0 where
   none : (s : StoredState) → Calls s [] s
   then-line : (s s′ : StoredState) (l b : List ℕ) (r : Returned) (cs : List Call) → LinePromise s l b r → Calls (r .state) cs s′ → Calls s (line l b ∷ cs) s′
-  then-restart : (s s′ : StoredState) (r : ReturnedAlone) (cs : List Call) → RestartPromise s r → Calls (r .state) cs s′ → Calls s (again ∷ cs) s′
+  then-restart : (s s′ : StoredState) (r : ReturnedAlone) (cs : List Call) → RestartPromise s r → Calls (r .state) cs s′ → Calls s (restarting ∷ cs) s′
 
 -- [Two lists 1] the second list, with the numbers that its lines returned
 pub data Lines : StoredState → List Line → List ℕ → StoredState → Type 0 where

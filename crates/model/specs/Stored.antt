@@ -1,6 +1,6 @@
 -- What a stored value stands for (document 01, "Empty programs": free is only what lies beyond the last user system or a name's last byte).
 use mathlib.Core.Path.{_≡_}
-use Rattle.model.specs.Base.{ℕ, List, [], map, Bool, true, false, _&&_, leb, take, replicate}
+use Rattle.model.specs.Base.{ℕ, List, map, Bool, true, false, _&&_, leb, take, replicate}
 use Rattle.model.specs.Types.{Name, StoredSystem, StoredMemory, StoredState}
 use Rattle.model.specs.Lists.{all}
 use Rattle.model.specs.Limits.{maxSystems, nameLimit}

@@ -11,6 +11,7 @@ use Rattle.model.specs.Pose.{Pose, coord, turned, after, unturned, times, quart
 use Rattle.pose.specs.Types.{Dir, Px, Nx, Py, Ny, Pz, Nz, Rot, Turns, Vec3}
 use Rattle.pose.specs.Poses.{placed, Rotation}
 use Rattle.pose.specs.Inverse.{undo, minus, inverse}
+use Rattle.pose.specs.Claims.{FollowingOn, Undoing, Showing}
 use Rattle.model.proofs.Upto.{upto}
 use Rattle.pose.proofs.Turning.{after-assoc, after-unturned, turned-after, turned-plus, turned-origin, plus-assoc, plus-origin, origin-plus, plus-minus, minus-plus}
 use Rattle.pose.proofs.Naming.{same-is, at-turns}
@@ -179,3 +180,28 @@ module _ (p : Pose) (n : Rotation (p .rot)) where
   inverse-only-right q e =
       sym (neutral-left q) ∙ ap (λ (s : Pose). followed s q) (sym inverse-left) ∙ follow-assoc (inverse p) p q ∙
       ap (followed (inverse p)) e ∙ neutral-right (inverse p)
+
+-- ---- the claims
+
+pub following-on : FollowingOn
+following-on =
+    record {
+      places = placed-followed;
+      regroups = follow-assoc;
+      neutral-left = neutral-left;
+      neutral-right = neutral-right;
+      stays = rotation-after;
+    }
+
+pub undoing : Undoing
+undoing p n =
+    record {
+      left = inverse-left p n;
+      right = inverse-right p n;
+      rotation = rotation-undo (p .rot) n;
+      only-left = inverse-only-left p n;
+      only-right = inverse-only-right p n;
+    }
+
+pub showing : Showing
+showing = record { names = shown-names; alike = shown-alike }

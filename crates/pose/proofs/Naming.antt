@@ -23,7 +23,7 @@ axisAt-number Ny = refl
 axisAt-number Pz = refl
 axisAt-number Nz = refl
 
-axisNumber-below : (d : Dir) → axisNumber d < 6
+pub axisNumber-below : (d : Dir) → axisNumber d < 6
 axisNumber-below Px = omega arith
 axisNumber-below Nx = omega arith
 axisNumber-below Py = omega arith
@@ -76,6 +76,13 @@ module _ (q : Rot) (four : after q (after q (after q q)) ≡ unturned) where
 
   pub times-quarters : (n : ℕ) → times n q ≡ times (n % 4) q
   times-quarters n = let e : n ≡ n / 4 * 4 + n % 4 = omega arith in ap (λ (j : ℕ). times j q) e ∙ rounds (n / 4) (n % 4)
+
+  -- so many turns by what is left of them, and after a rotation
+  pub times-left : (n k : ℕ) → n % 4 ≡ k → times n q ≡ times k q
+  times-left n k e = times-quarters n ∙ ap (λ (j : ℕ). times j q) e
+
+  pub after-left : (s : Rot) (n k : ℕ) → n % 4 ≡ k → after (times k q) s ≡ after (times n q) s
+  after-left s n k e = ap (λ (r : Rot). after r s) (sym (times-left n k e))
 
 -- whole turns do not count: any triple names what the one of the 64 at its number does
 pub rotOf-number : (t : Turns) → rotOf (triple (tripleNumber t)) ≡ rotOf t

@@ -3,3 +3,4 @@ pub mod Types
 pub mod Poses
 pub mod Numbers
 pub mod Inverse
+pub mod Claims

@@ -2,6 +2,7 @@
 use mathlib.Core.Path.{_≡_}
 use Prim.Native.Nat.{ℕ, _-_, _^_, _≤_, _<_}
 use lib.IntN.{natAbs}
+use Rattle.model.specs.Limits.{wholeTurn}
 use Rattle.model.specs.Pose.{Pose, rotOf, plus, turned}
 use Rattle.pose.specs.Types.{Rot, Turns, Vec3, StoredPose}
 
@@ -35,6 +36,6 @@ pub record Rotation (r : Rot) : Type 0 where
 
 -- less than a whole turn about each axis
 pub record Quarters (t : Turns) : Type 0 where
-  pub u-below : t .u < 4
-  pub v-below : t .v < 4
-  pub w-below : t .w < 4
+  pub u-below : t .u < wholeTurn
+  pub v-below : t .v < wholeTurn
+  pub w-below : t .w < wholeTurn

@@ -7,8 +7,7 @@ use model::Rot;
 use model::Turns;
 use model::Vec3;
 
-pub mod rotation;
-mod tables;
+pub mod rotation; // rotation.rt: rotations by rows, and the triples of quarter turns that name them
 
 // A point q of the system, as a column, stands at `at + rot·q` in the predecessor's axes.
 pub struct Pose {

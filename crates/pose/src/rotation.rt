@@ -1,10 +1,9 @@
 // Rotations of the cube by rows, and the triples of quarter turns that name them.
 ghost use mathlib.Core.Path.{_≡_};
 ghost use Prim.Native.Nat.{_<_};
-ghost use Rattle.model.specs.Pose.{flip, row, coord, after, turned, axisNumber, rotOf, shown};
+ghost use Rattle.model.specs.Pose.{flip, row, coord, after, turned, times, quarterX, quarterY, quarterZ, axisNumber, rotOf, shown};
 ghost use Rattle.pose.specs.Poses.{Within, widest};
-ghost use Rattle.pose.specs.Numbers.{axisAt, tripleNumber};
-use crate::tables;
+ghost use Rattle.pose.specs.Numbers.{firstNamed};
 use model::Dir;
 use model::Rot;
 use model::Turns;
@@ -80,20 +79,7 @@ pub fn turn(r: Rot, v: Vec3) -> Vec3
     Vec3 { x, y, z }
 }
 
-fn axis_at(n: u8) -> Dir
-    ensures { λ r. ⌜ r ≡ axisAt n ⌝ }
-{
-    match n {
-        0 => Dir::Px,
-        1 => Dir::Nx,
-        2 => Dir::Py,
-        3 => Dir::Ny,
-        4 => Dir::Pz,
-        _ => Dir::Nz,
-    }
-}
-
-fn number(d: Dir) -> usize
+fn number(d: Dir) -> u8
     ensures { λ r. ⌜ (r ≡ axisNumber d) × (r < 6) ⌝ }
 {
     match d {
@@ -106,28 +92,145 @@ fn number(d: Dir) -> usize
     }
 }
 
-fn place_of(t: Turns) -> usize
-    ensures { λ r. ⌜ (r ≡ tripleNumber t) × (r < 64) ⌝ }
+// So many quarter turns about Z.
+fn about_z(quarters: u8) -> Rot
+    ensures { λ r. ⌜ r ≡ times quarters quarterZ ⌝ }
 {
-    let u = (t.u % 4) as usize;
-    let v = (t.v % 4) as usize;
-    let w = (t.w % 4) as usize;
-    u * 16 + v * 4 + w
+    let n = quarters % 4;
+    match n {
+        0 => Rot {
+            a: Dir::Px,
+            b: Dir::Py,
+            c: Dir::Pz,
+        },
+        1 => Rot {
+            a: Dir::Ny,
+            b: Dir::Px,
+            c: Dir::Pz,
+        },
+        2 => Rot {
+            a: Dir::Nx,
+            b: Dir::Ny,
+            c: Dir::Pz,
+        },
+        _ => Rot {
+            a: Dir::Py,
+            b: Dir::Nx,
+            c: Dir::Pz,
+        },
+    }
+}
+
+// First s, and then so many quarter turns about Y.
+fn about_y(quarters: u8, s: Rot) -> Rot
+    ensures { λ r. ⌜ r ≡ after (times quarters quarterY) s ⌝ }
+{
+    let a = s.a;
+    let b = s.b;
+    let c = s.c;
+    let n = quarters % 4;
+    match n {
+        0 => s,
+        1 => Rot {
+            a: c,
+            b,
+            c: flipped(a),
+        },
+        2 => Rot {
+            a: flipped(a),
+            b,
+            c: flipped(c),
+        },
+        _ => Rot {
+            a: flipped(c),
+            b,
+            c: a,
+        },
+    }
+}
+
+// First s, and then so many quarter turns about X.
+fn about_x(quarters: u8, s: Rot) -> Rot
+    ensures { λ r. ⌜ r ≡ after (times quarters quarterX) s ⌝ }
+{
+    let a = s.a;
+    let b = s.b;
+    let c = s.c;
+    let n = quarters % 4;
+    match n {
+        0 => s,
+        1 => Rot {
+            a,
+            b: flipped(c),
+            c: b,
+        },
+        2 => Rot {
+            a,
+            b: flipped(b),
+            c: flipped(c),
+        },
+        _ => Rot {
+            a,
+            b: c,
+            c: flipped(b),
+        },
+    }
 }
 
 // The rotation that a triple names: about Z, then about Y, then about X.
 pub fn named(t: Turns) -> Rot
     ensures { λ r. ⌜ r ≡ rotOf t ⌝ }
 {
-    let k = place_of(t);
-    let n = tables::NAMED[k];
-    let a = axis_at(n / 36);
-    let b = axis_at(n / 6 % 6);
-    let c = axis_at(n % 6);
-    Rot { a, b, c }
+    about_x(t.u, about_y(t.v, about_z(t.w)))
 }
 
-// The triple that a rotation is shown as.
+// The first two axes of a rotation determine the third. By the numbers of those two, as digits to the base six: the third, and the place in dictionary
+// order of the first triple that names the rotation, as digits to the base 64. (A match on a number is a table that the compiler lays out once.)
+fn first_named(axes: u8) -> u16
+    requires { ⌜ axes < 36 ⌝ }
+    ensures { λ r. ⌜ r ≡ firstNamed axes ⌝ }
+{
+    match axes {
+        0 => 63,
+        1 => 63,
+        2 => 256,
+        3 => 330,
+        4 => 218,
+        5 => 144,
+        6 => 63,
+        7 => 63,
+        8 => 328,
+        9 => 258,
+        10 => 152,
+        11 => 210,
+        12 => 329,
+        13 => 259,
+        14 => 63,
+        15 => 63,
+        16 => 25,
+        17 => 83,
+        18 => 257,
+        19 => 331,
+        20 => 63,
+        21 => 63,
+        22 => 91,
+        23 => 17,
+        24 => 133,
+        25 => 199,
+        26 => 68,
+        27 => 6,
+        28 => 63,
+        29 => 63,
+        30 => 205,
+        31 => 143,
+        32 => 12,
+        33 => 78,
+        34 => 63,
+        _ => 63,
+    }
+}
+
+// The triple that a rotation is shown as. Axes that are no rotation have the last triple.
 pub fn shown_of(r: Rot) -> Turns
     ensures { λ t. ⌜ t ≡ shown r ⌝ }
 {
@@ -137,10 +240,14 @@ pub fn shown_of(r: Rot) -> Turns
     let i = number(a);
     let j = number(b);
     let k = number(c);
-    let s = tables::SHOWN[i * 36 + j * 6 + k];
+    let first = first_named(i * 6 + j);
+    let place = (first % 64) as u8;
+    if first / 64 != k as u16 {
+        return Turns { u: 3, v: 3, w: 3 };
+    }
     Turns {
-        u: s / 16,
-        v: s / 4 % 4,
-        w: s % 4,
+        u: place / 16,
+        v: place / 4 % 4,
+        w: place % 4,
     }
 }

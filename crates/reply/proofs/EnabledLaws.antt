@@ -14,10 +14,11 @@ use Rattle.model.specs.Request.{enabledOnes}
 use Rattle.model.specs.Reply.{listing, enabledLine, listed}
 use Rattle.model.proofs.Memories.Fine.{Placed, PartPlaced, fine-of}
 use Rattle.chains.proofs.Copies.{unset}
+use Rattle.model.proofs.Shape.{systemsOf-count}
+use Rattle.model.specs.Effects.{toolHalf}
 use Rattle.reply.specs.Types.{Kind, Operating, Orientational, Levelling, Enabled, OperatingPart, Single, Pair, StoredMemory}
 use Rattle.reply.specs.Lines.{further, enabledText}
-use Rattle.reply.specs.EnabledText.{firstPlace, toolPlace, pair?, toolText, groupsText}
-use Rattle.reply.proofs.StoredLaws.{count-is}
+use Rattle.reply.specs.EnabledText.{firstPlace, pair?, toolText, groupsText}
 use Rattle.reply.proofs.TurnLaws.{enabled-turn}
 
 -- ---- the parts
@@ -27,7 +28,7 @@ unfolding toolText
 tool-none (Single p) s e = refl
 tool-none (Pair w t) s e = absurd (false≢true (sym e))
 
-pub tool-line : (part : OperatingPart) (s : System) → pair? part ≡ true → toolText part s ≡ further (enabledText Operating (toolPlace part) s)
+pub tool-line : (part : OperatingPart) (s : System) → pair? part ≡ true → toolText part s ≡ further (enabledText Operating (toolHalf part) s)
 unfolding toolText
 tool-line (Single p) s e = absurd (false≢true e)
 tool-line (Pair w t) s e = refl
@@ -47,7 +48,7 @@ four a t o v = simp (append-assoc, append-nil)
 -- over any line and texts that it equals
 parts : (line : Ref → List ℕ) (e : Enabled) (part : OperatingPart) (a b o v : System)
     → line (inGroup Operating (firstPlace part)) ≡ enabledText Operating (firstPlace part) a
-    → line (inGroup Operating (toolPlace part)) ≡ enabledText Operating (toolPlace part) b
+    → line (inGroup Operating (toolHalf part)) ≡ enabledText Operating (toolHalf part) b
     → line (inGroup Orientational (e .orientational)) ≡ enabledText Orientational (e .orientational) o
     → line (inGroup Levelling (e .levelling)) ≡ enabledText Levelling (e .levelling) v
     → listing (map line (map (inGroup Operating) (operatingPlaces part) ++ (inGroup Orientational (e .orientational) ∷ inGroup Levelling (e .levelling) ∷ [])))
@@ -64,7 +65,7 @@ module _ (m : StoredMemory) (ready : FineMemory m) (long : length (m .systems) �
   placed-within k p f = go (decLt 0 p)
     where
       go : Dec (0 < p) → p ≤ m .count
-      go (yes h) = omega (arith, f h .0, count-is m (ready .shape) long)
+      go (yes h) = omega (arith, f h .0, systemsOf-count m (ready .shape) long)
       go (no h) = omega arith
 
   pub first-within : firstPlace (m .enabled .operating) ≤ m .count
@@ -74,10 +75,10 @@ module _ (m : StoredMemory) (ready : FineMemory m) (long : length (m .systems) �
       go (Single p) f = placed-within _ p f
       go (Pair w t) f = placed-within _ w (f .0)
 
-  pub tool-within : toolPlace (m .enabled .operating) ≤ m .count
+  pub tool-within : toolHalf (m .enabled .operating) ≤ m .count
   tool-within = go (m .enabled .operating) (fine-of (memoryOf m) (ready .formed) .enabled .operating)
     where
-      go : (part : OperatingPart) → PartPlaced (systemsOf m) part → toolPlace part ≤ m .count
+      go : (part : OperatingPart) → PartPlaced (systemsOf m) part → toolHalf part ≤ m .count
       go (Single p) f = omega arith
       go (Pair w t) f = placed-within _ t (f .1)
 
@@ -92,7 +93,7 @@ module _ (m : StoredMemory) (ready : FineMemory m) (long : length (m .systems) �
 
   pub enabled-whole : let e = m .enabled in let part = e .operating in
       listed (memoryOf m) enabledOnes
-      ≡ enabledText Operating (firstPlace part) (storedAt (firstPlace part)) ++ (toolText part (storedAt (toolPlace part)) ++ groupsText e (storedAt (e .orientational)) (storedAt (e .levelling)))
+      ≡ enabledText Operating (firstPlace part) (storedAt (firstPlace part)) ++ (toolText part (storedAt (toolHalf part)) ++ groupsText e (storedAt (e .orientational)) (storedAt (e .levelling)))
   unfolding listed enabledRefs
   enabled-whole =
       let e = m .enabled in

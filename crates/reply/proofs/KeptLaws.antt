@@ -13,13 +13,13 @@ use Rattle.model.specs.Memory.{System}
 use Rattle.chains.specs.declared.frames.Reached.{Reached}
 use Rattle.chains.specs.Walk.{walkOf, walked, atFixed}
 use Rattle.chains.proofs.Reaching.{walked-fixed}
+use Rattle.model.proofs.Shape.{shaped-count}
 use Rattle.reply.specs.Types.{StoredMemory}
 use Rattle.reply.proofs.ReachLaws.{FlatOf}
-use Rattle.reply.proofs.StoredLaws.{few}
 
 -- only to fill a place where a list has none
 abbrev pub nowhere : Reached
-nowhere = record { pose = record { at = origin; rot = record { a = Px; b = Px; c = Px } }; steps = 0 }
+nowhere = record { at = origin; rot = record { a = Px; b = Px; c = Px }; steps = 0 }
 
 -- what is reached from each place up to i, place 0 too
 pub record Kept (l : List System) (known : List Reached) (i : ℕ) : Type 0 where
@@ -49,7 +49,7 @@ module _ {m : StoredMemory} {preds : List ℕ} {offsets : List ℤ} {turns : Lis
   ps = take (m .count) preds
 
   pub held : m .count ≤ 16
-  held = few m (flat .good .shape) (flat .long)
+  held = shaped-count m (flat .good .shape)
 
   pub taken : m .count ≡ length ps
   taken = omega (arith, held, flat .many, length-take (m .count) preds)

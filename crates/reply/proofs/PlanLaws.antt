@@ -10,11 +10,11 @@ use Rattle.model.specs.Stored.{systemsOf, memoryOf, FineMemory}
 use Rattle.model.specs.Request.{Query, systemsAll, links, resultants}
 use Rattle.model.specs.Reply.{listing, everySystem, systemLine, linkLine, resultantLine, listed}
 use Rattle.model.proofs.Open.{definitions-open}
+use Rattle.model.proofs.Shape.{systemsOf-count}
 use Rattle.reply.specs.Types.{StoredMemory}
 use Rattle.reply.specs.Lines.{fixedLines}
 use Rattle.reply.proofs.ListLaws.{Plan, list-of}
 use Rattle.reply.proofs.ShortLaws.{listed-short}
-use Rattle.reply.proofs.StoredLaws.{count-is}
 
 -- the line of the k-th user system
 abbrev pub lineAt : (List System → Ref → List ℕ) → StoredMemory → ℕ → List ℕ
@@ -38,7 +38,7 @@ module _ (m : StoredMemory) (ready : FineMemory m) (b : List ℕ) (room : buffer
       → fixedLines (line (systemsOf m)) ≡ fixedLines (line []) → Plan (listed (memoryOf m) q) (fixedLines (line [])) (lineAt line m) (m .count) b
   plan q line e f =
       record {
-        whole = e ∙ list-of line (systemsOf m) (m .count) f (count-is m (ready .shape) long);
+        whole = e ∙ list-of line (systemsOf m) (m .count) f (systemsOf-count m (ready .shape) long);
         fits = omega (arith, room, listed-short (memoryOf m) (ready .formed) q);
       }
 

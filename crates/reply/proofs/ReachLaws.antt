@@ -1,14 +1,13 @@
 -- The walk over a memory laid flat reaches what the line of a place shows.
 use Prim.Native.Nat.{ℕ, zero, suc, _-_, _≤_, _<_}
 use mathlib.Core.Path.{_≡_, refl, sym, ap, subst, _∙_}
-use mathlib.Core.List.{List, [], _∷_}
+use mathlib.Core.List.{List, []}
 use native.Mathlib.Omega.{arith}
 use lib.IntN.{ℤ}
 use lib.ListN.{length, take, getD, length-take, length-map}
 use Rattle.model.specs.Kinds.{ofKind}
-use Rattle.model.specs.Memory.{System, Memory, Ref, named, systemAt, nameOf, fixedRef, userRef}
-use Rattle.model.specs.Request.{resultantOf}
-use Rattle.model.specs.Reply.{listing, resultantLine, listed}
+use Rattle.model.specs.Memory.{System, systemAt, nameOf, fixedRef, userRef}
+use Rattle.model.specs.Reply.{resultantLine}
 use Rattle.model.specs.Stored.{bytesOf, systemsOf, memoryOf, FineMemory}
 use Rattle.model.proofs.Open.{definitions-open}
 use Rattle.pose.specs.Poses.{Within, reach}
@@ -18,10 +17,11 @@ use Rattle.chains.specs.Walk.{Walk, walked, Walkable, Laid, Enough}
 use Rattle.chains.proofs.Copies.{unset}
 use Rattle.chains.proofs.Reaching.{resultant-within}
 use Rattle.chains.proofs.Ready.{walkable, ready, ready-at, ready-walk}
+use Rattle.model.proofs.Shape.{shaped-count, systemsOf-count}
 use Rattle.reply.specs.Types.{Group, StoredMemory}
 use Rattle.reply.specs.Lines.{resultantText}
 use Rattle.reply.specs.Reached.{reachedText, refAt}
-use Rattle.reply.proofs.StoredLaws.{few, count-is, stands-at}
+use Rattle.reply.proofs.StoredLaws.{stands-at}
 
 line-at : (l : List System) (i : ℕ) → let s = systemAt l (suc i) in resultantLine l (userRef l (suc i)) ≡ reachedText (s .name) (ofKind (s .kind) .group) (walked l (suc i))
 unfolding resultantLine nameOf resultantText
@@ -57,7 +57,7 @@ pub flat-of : (m : StoredMemory) {preds : List ℕ} {offsets : List ℤ} {turns 
     → framed offsets turns (predsOf (systemsOf m)) ≡ framesOf (systemsOf m) → length offsets ≡ 48 → length turns ≡ 48 → FlatOf m preds offsets turns
 flat-of m {preds = preds} {n = n} good long links many frames wide broad =
     let e : n ≡ m .count =
-    omega (arith, links .few, length-take n preds, ap length (links .links), length-map (systemsOf m) (λ (s : System). s .pred), count-is m (good .shape) long) in
+    omega (arith, links .few, length-take n preds, ap length (links .links), length-map (systemsOf m) (λ (s : System). s .pred), systemsOf-count m (good .shape) long) in
     record { good = good; long = long; many = many; links = rw e at (links .links); frames = frames; wide = wide; broad = broad }
 
 module _ {m : StoredMemory} {preds : List ℕ} {offsets : List ℤ} {turns : List ℕ} (flat : FlatOf m preds offsets turns) where
@@ -65,11 +65,11 @@ module _ {m : StoredMemory} {preds : List ℕ} {offsets : List ℤ} {turns : Lis
   can = walkable (memoryOf m) (flat .good .formed)
 
   as-many : length (systemsOf m) ≡ m .count
-  as-many = count-is m (flat .good .shape) (flat .long)
+  as-many = systemsOf-count m (flat .good .shape) (flat .long)
 
   pub can-walk : Laid offsets turns (take (m .count) preds)
   can-walk =
-      let f = few m (flat .good .shape) (flat .long) in
+      let f = shaped-count m (flat .good .shape) in
       ready (systemsOf m) can offsets turns (take (m .count) preds) (flat .links) (flat .frames) (omega (arith, as-many, flat .wide)) (omega (arith, as-many, flat .broad))
 
   pub deep-enough : (q : ℕ) → q ≤ m .count → Enough (framed offsets turns (take (m .count) preds)) q 16

@@ -1,28 +1,22 @@
 -- Every reply of a well-formed memory is shorter than the least lent buffer.
 use Prim.Native.Nat.{ℕ, zero, suc, _+_, _*_, _≤_, _<_}
-use mathlib.Core.Path.{_≡_}
-use mathlib.Core.Bool.{true, _&&_}
 use mathlib.Core.List.{List, [], _∷_, _++_, map, append-nil}
 use native.Mathlib.Omega.{arith}
 use native.Mathlib.Decide.{decLt}
-use borrow.Author.Tests.{leb-true}
-use lib.Dec.{leb}
 use lib.IntN.{ℤ, pos, natAbs}
 use lib.ListN.{length, length-append}
-use Rattle.model.specs.Lists.{all, joined}
-use Rattle.model.specs.Limits.{nameLimit, quarterTurn, offsetLimit, bufferLimit}
+use Rattle.model.specs.Lists.{joined}
+use Rattle.model.specs.Limits.{quarterTurn, offsetLimit, bufferLimit}
 use Rattle.model.specs.Kinds.{ofKind, ofGroup}
-use Rattle.model.specs.Words.{capital, nameByte, legalName}
 use Rattle.model.specs.Pose.{shown}
-use Rattle.model.specs.Memory.{System, Memory, Ref, fixedRef, userRef, systemAt, nameOf, typeOf, predName, named}
+use Rattle.model.specs.Memory.{System, Ref, fixedRef, userRef, systemAt, nameOf, typeOf, predName, named}
 use Rattle.model.specs.Chain.{steps, resultant}
 use Rattle.model.specs.Use.{operatingPlaces, inGroup, enabledRefs}
-use Rattle.model.specs.WellFormed.{memoryFine}
-use Rattle.model.specs.Request.{Query, enabledOnes, systemsAll, links, resultants, resultantOf}
+use Rattle.model.specs.Request.{enabledOnes, systemsAll, links, resultants, resultantOf}
 use Rattle.model.specs.Reply.{value, degrees, sixValues, listing, everySystem, enabledLine, linkLine, systemLine, resultantLine, listed}
-use Rattle.model.proofs.Basics.{and-split}
 use Rattle.model.proofs.Memories.Fine.{Systems, own-of, fine-of, blank-beyond}
 use Rattle.model.proofs.Memories.Named.{named-place, place-within}
+use Rattle.model.proofs.Words.{legalName-short}
 use Rattle.pose.specs.Poses.{Within, Quarters}
 use Rattle.pose.proofs.Bounds.{within-more}
 use Rattle.pose.proofs.Naming.{shown-quarters}
@@ -33,6 +27,7 @@ use Rattle.model.proofs.Digits.{decimal-short}
 use Rattle.print.proofs.Laws.{value-short}
 use Rattle.reply.specs.Types.{Vec3, Turns, Kind, Ksd, Kst, Ksw, Ksb, Kld, Group, Operating, Orientational, Levelling, Enabled, OperatingPart, Single, Pair}
 use Rattle.reply.specs.Lines.{furtherLines}
+use Rattle.reply.specs.Fits.{RepliesFit}
 use Rattle.reply.proofs.ValueLaws.{length-offsets, length-turns, length-six}
 use Rattle.reply.proofs.ListLaws.{every-list}
 use Rattle.reply.proofs.StoredLaws.{turns-at}
@@ -76,11 +71,6 @@ group-short Operating = (omega arith, omega arith, omega arith)
 group-short Orientational = (omega arith, omega arith, omega arith)
 group-short Levelling = (omega arith, omega arith, omega arith)
 
-legal-short : (n : List ℕ) → legalName n ≡ true → length n ≤ 16
-unfolding legalName
-legal-short [] e = omega arith
-legal-short (b ∷ bs) e = leb-true (suc (length bs)) nameLimit (and-split (capital b && all nameByte bs) (leb (suc (length bs)) nameLimit) e .1)
-
 module _ (l : List System) (fine : Systems l) (w : Walkable l) where
   own-name-short : (k : ℕ) → length (systemAt l k .name) ≤ 16
   unfolding systemAt
@@ -89,7 +79,7 @@ module _ (l : List System) (fine : Systems l) (w : Walkable l) where
     where
       go : Dec (length l < suc i) → length (systemAt l (suc i) .name) ≤ 16
       go (yes h) = rw (blank-beyond l (suc i) h) (omega arith)
-      go (no h) = legal-short (systemAt l (suc i) .name) (own-of (systemAt l (suc i)) (fine .own (suc i) (omega arith, omega arith)) .name)
+      go (no h) = legalName-short (systemAt l (suc i) .name) (own-of (systemAt l (suc i)) (fine .own (suc i) (omega arith, omega arith)) .name)
 
   name-short : (g : Group) (p : ℕ) → length (nameOf l (record { group = g; place = p })) ≤ 16
   unfolding nameOf
@@ -159,7 +149,7 @@ refs-short line e h = go (e .operating)
     go (Single p) = simp (length-append, append-nil) (omega (arith, h (inGroup Operating p), h o, h v))
     go (Pair w t) = simp (length-append, append-nil) (omega (arith, h (inGroup Operating w), h (inGroup Operating t), h o, h v))
 
-pub listed-short : (m : Memory) → memoryFine m ≡ true → (q : Query) → length (listed m q) ≤ bufferLimit
+pub listed-short : RepliesFit
 unfolding listed listing
 listed-short m f enabledOnes = refs-short (enabledLine (m .systems)) (m .enabled) (enabled-short (m .systems) (fine-of m f .systems) (walkable m f))
 listed-short m f systemsAll =

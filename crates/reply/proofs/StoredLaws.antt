@@ -1,26 +1,25 @@
 -- What a well-formed stored memory gives the writers.
 use Prim.Native.Nat.{ℕ, zero, suc, _≤_, _<_}
-use mathlib.Core.Path.{_≡_, ap, _∙_}
+use mathlib.Core.Path.{_≡_, ap}
 use mathlib.Core.Bool.{true, _&&_}
 use mathlib.Core.List.{List}
 use native.Mathlib.Omega.{arith}
 use native.Mathlib.Decide.{decLt}
 use borrow.Author.Tests.{leb-true}
 use lib.Dec.{leb}
-use lib.ListN.{length, getD, take, length-take}
-use lib.Seq.{getD-take}
-use Rattle.model.specs.Lists.{all}
-use Rattle.model.specs.Limits.{maxSystems, nameLimit, offsetLimit}
+use lib.ListN.{length, getD}
+use Rattle.model.specs.Limits.{nameLimit, offsetLimit}
 use Rattle.model.specs.Memory.{System, systemAt, noTurn}
-use Rattle.model.specs.Stored.{systemOf, systemsOf, memoryOf, nameShaped, memoryShaped}
+use Rattle.model.specs.Stored.{systemOf, systemsOf, memoryOf, memoryShaped}
 use Rattle.model.specs.WellFormed.{turnsFine, memoryFine}
-use Rattle.model.proofs.Basics.{and-split, all-at}
+use Rattle.model.proofs.Basics.{and-split}
 use Rattle.model.proofs.Memories.Fine.{Systems, own-of, fine-of, preds-within, blank-beyond}
 use Rattle.pose.specs.Poses.{Quarters, reach}
 use Rattle.pose.proofs.Bounds.{within-more}
 use Rattle.chains.proofs.Copies.{unset}
-use Rattle.chains.proofs.Laid.{stored-length, stored-at}
+use Rattle.chains.proofs.Laid.{stored-at}
 use Rattle.chains.proofs.Ready.{walkable}
+use Rattle.model.proofs.Shape.{shaped-count, shaped-at, systemsOf-count}
 use Rattle.reply.specs.Types.{Turns, StoredMemory}
 use Rattle.reply.specs.Lines.{Writable}
 
@@ -52,21 +51,9 @@ turns-at l f (suc i) = go (decLt (length l) (suc i))
 -- ---- a memory with shape that is well formed; long is what owning it tells
 
 module _ (m : StoredMemory) (shaped : memoryShaped m ≡ true) (long : length (m .systems) ≡ 16) where
-  parts : (leb (m .count) maxSystems ≡ true) × (all nameShaped (take (m .count) (m .systems)) ≡ true)
-  unfolding memoryShaped
-  parts = and-split (leb (m .count) maxSystems) (all nameShaped (take (m .count) (m .systems))) shaped
-
-  pub few : m .count ≤ 16
-  few = leb-true (m .count) maxSystems (parts .0)
-
-  pub count-is : length (systemsOf m) ≡ m .count
-  count-is = stored-length (m .systems) (m .count) ∙ omega (arith, few)
-
   pub name-fits : (i : ℕ) → i < m .count → getD (m .systems) i unset .name .len ≤ nameLimit
   name-fits i h =
-      let n : i < length (take (m .count) (m .systems)) = rw length-take (omega (arith, few)) in
-      let e = all-at nameShaped (take (m .count) (m .systems)) unset i (parts .1) n in
-      leb-true _ nameLimit (rw (getD-take (m .count) (m .systems) i unset h) at e)
+      leb-true _ nameLimit (shaped-at m shaped unset i h (omega (arith, shaped-count m shaped)))
 
   -- the system at a place is the stored one before it
   pub stands-at : (i : ℕ) → i < m .count → systemAt (systemsOf m) (suc i) ≡ systemOf (getD (m .systems) i unset)
@@ -77,7 +64,7 @@ module _ (m : StoredMemory) (shaped : memoryShaped m ≡ true) (long : length (m
     pub pred-fits : (i : ℕ) → i < m .count → getD (m .systems) i unset .pred ≤ m .count
     pred-fits i h =
         let p = preds-within (fine-of (memoryOf m) fine .systems) (suc i) in
-        omega (arith, p, ap (λ (s : System). s .pred) (stands-at i h), count-is)
+        omega (arith, p, ap (λ (s : System). s .pred) (stands-at i h), systemsOf-count m shaped long)
 
     pub writable : (i : ℕ) → i < m .count → Writable (getD (m .systems) i unset)
     writable i h =

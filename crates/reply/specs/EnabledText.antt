@@ -7,14 +7,10 @@ use Rattle.model.specs.Memory.{System}
 use Rattle.reply.specs.Types.{Operating, Orientational, Levelling, Enabled, OperatingPart, Single, Pair, StoredSystem}
 use Rattle.reply.specs.Lines.{further, enabledText}
 
--- the one operating place, or the work half's; and the tool half's
+-- the one operating place, or the work half's
 abbrev pub firstPlace : OperatingPart → ℕ
 firstPlace (Single p) = p
 firstPlace (Pair w t) = w
-
-abbrev pub toolPlace : OperatingPart → ℕ
-toolPlace (Single p) = 0
-toolPlace (Pair w t) = t
 
 abbrev pub pair? : OperatingPart → Bool
 pair? (Single p) = false

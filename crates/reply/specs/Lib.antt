@@ -3,3 +3,4 @@ pub mod Values
 pub mod Lines
 pub mod EnabledText
 pub mod Reached
+pub mod Fits

@@ -14,7 +14,8 @@ use Rattle.pose.specs.Poses.{Within, Quarters, reach}
 
 -- ---- what the calls promise and the writers ask
 
--- the reply from byte 0 on, its length, and the later bytes as they were
+-- the reply from byte 0 on, its length, and the later bytes as they were, as a call answers (`written`). A writer within it begins at any place, and leaves
+-- `Wrote`; `replied` in proofs/ListLaws.antt takes the last of these to this one
 pub record Replied (text before after : List ℕ) (count : ℕ) : Type 0 where
   pub count-is : count ≡ length text
   pub bytes : after ≡ written text before

@@ -14,7 +14,7 @@ use Rattle.reply.specs.Lines.{resultantText}
 -- what a walk reached, and the name of its system, can be written
 pub record Reachable (n : Name) (r : Reached) : Type 0 where
   pub name-fits : n .len ≤ nameLimit
-  pub near : Within reach (r .pose .at)
+  pub near : Within reach (r .at)
 
 abbrev pub reachedText : List ℕ → Group → Walk → List ℕ
 reachedText n g w = resultantText n g (w .pose .at) (shown (w .pose .rot)) (w .steps)

@@ -1,7 +1,8 @@
 // KEN?: one operating system, or work and tool; then the other two groups.
-use crate::lines::put_enabled;
-use crate::lines::put_further_enabled;
+use crate::line::put_enabled;
+use crate::line::put_further_enabled;
 use crate::slot;
+use facts::halves::tool_half;
 use model::Enabled;
 use model::Group;
 use model::Memory;
@@ -13,11 +14,12 @@ ghost use Prim.Native.Nat.{_+_, _≤_, _<_};
 ghost use lib.ListN.{length};
 ghost use Rattle.model.specs.Limits.{nameLimit, bufferLimit};
 ghost use Rattle.model.specs.Stored.{systemOf, memoryOf, FineMemory};
+ghost use Rattle.model.specs.Effects.{toolHalf};
 ghost use Rattle.model.specs.Request.{enabledOnes};
 ghost use Rattle.model.specs.Reply.{listed};
 ghost use Rattle.print.specs.Over.{Wrote};
 ghost use Rattle.reply.specs.Lines.{Replied, further, enabledText};
-ghost use Rattle.reply.specs.EnabledText.{firstPlace, toolPlace, pair?, toolText, groupsText, GroupsFit};
+ghost use Rattle.reply.specs.EnabledText.{firstPlace, pair?, toolText, groupsText, GroupsFit};
 
 // The one operating place, or the work half's.
 fn first_place(part: OperatingPart) -> u8
@@ -26,15 +28,6 @@ fn first_place(part: OperatingPart) -> u8
     match part {
         OperatingPart::Single(p) => p,
         OperatingPart::Pair(work, _) => work,
-    }
-}
-
-fn tool_place(part: OperatingPart) -> u8
-    ensures { λ r. ⌜ r ≡ toolPlace part ⌝ }
-{
-    match part {
-        OperatingPart::Single(_) => 0,
-        OperatingPart::Pair(_, tool) => tool,
     }
 }
 
@@ -58,13 +51,13 @@ fn put_next(reply: &mut [u8], at: usize, g: Group, place: u8, s: System) -> usiz
 
 // The tool's line, where a pair is enabled.
 fn put_tool(reply: &mut [u8], at: usize, part: OperatingPart, s: System) -> usize
-    requires { ⌜ (0 < toolPlace part → s .name .len ≤ nameLimit) × (at + length (toolText part (systemOf s)) ≤ length (now reply)) ⌝ }
+    requires { ⌜ (0 < toolHalf part → s .name .len ≤ nameLimit) × (at + length (toolText part (systemOf s)) ≤ length (now reply)) ⌝ }
     ensures { λ r. ⌜ Wrote (toolText part (systemOf s)) (now (reply .entry)) at (now (reply .exit)) r ⌝ }
 {
     if !is_pair(part) {
         return at;
     }
-    let place = tool_place(part);
+    let place = tool_half(part);
     put_next(reply, at, Group::Operating, place, s)
 }
 
@@ -87,7 +80,7 @@ pub fn enabled(m: Memory, reply: &mut [u8]) -> usize
     let part = e.operating;
     let place = first_place(part);
     let first = slot(place);
-    let tool = slot(tool_place(part));
+    let tool = slot(tool_half(part));
     let third = slot(e.orientational);
     let fourth = slot(e.levelling);
     let a = m.systems[first];

@@ -1,9 +1,9 @@
 // The replies to the queries, written straight into the lent buffer. A list begins with the fixed systems' lines; each further line goes into what is
 // left of the buffer.
-use crate::lines::put_further_link;
-use crate::lines::put_further_system;
-use crate::lines::put_link;
-use crate::lines::put_system;
+use crate::line::put_further_link;
+use crate::line::put_further_system;
+use crate::line::put_link;
+use crate::line::put_system;
 use model::Group;
 use model::Memory;
 use model::Name;
@@ -23,7 +23,7 @@ ghost use Rattle.print.specs.Over.{Wrote};
 ghost use Rattle.reply.specs.Lines.{Replied, fixedLines};
 
 pub mod texts; // texts.rt: types, groups and own values as text
-pub mod lines; // lines.rt: the lines of the lists
+pub mod line; // line.rt: the lines of the lists
 pub mod enabled; // enabled.rt: KEN?
 pub mod resultants; // resultants.rt: KLT?
 

@@ -1,5 +1,5 @@
 // KLT?: resultants, by the walk along the links of a memory laid flat once.
-use crate::lines::put_resultant;
+use crate::line::put_resultant;
 use crate::slot;
 use crate::texts::put_by_group;
 use chains::frames::Reached;
@@ -33,10 +33,9 @@ fn put_reached(out: &mut [u8], at: usize, name: Name, g: Group, r: Reached) -> u
     requires { ⌜ Reachable name r × (at + length (reachedText (bytesOf name) g (walkOf r)) ≤ length (now out)) ⌝ }
     ensures { λ n. ⌜ Wrote (reachedText (bytesOf name) g (walkOf r)) (now (out .entry)) at (now (out .exit)) n ⌝ }
 {
-    let pose = r.pose;
-    let rot = pose.rot;
+    let rot = r.rot;
     let shown = shown_of(rot);
-    put_resultant(out, at, name, g, pose.at, shown, r.steps)
+    put_resultant(out, at, name, g, r.at, shown, r.steps)
 }
 
 fn put_line(out: &mut [u8], at: usize, g: Group, place: usize, name: Name, r: Reached) -> usize

@@ -6,13 +6,10 @@ use model::Vec3;
 use print::put_degrees;
 use print::put_text;
 use print::put_value;
-ghost use mathlib.Core.Path.{_≡_};
-ghost use mathlib.Core.List.{_++_};
 ghost use Prim.Native.Nat.{_+_, _≤_};
 ghost use lib.ListN.{length};
-ghost use lib.IntN.{natAbs};
 ghost use Rattle.model.specs.Kinds.{ofKind, ofGroup};
-ghost use Rattle.model.specs.Reply.{value, degrees, sixValues};
+ghost use Rattle.model.specs.Reply.{sixValues};
 ghost use Rattle.print.specs.Over.{Wrote};
 ghost use Rattle.pose.specs.Poses.{Within, Quarters, reach};
 ghost use Rattle.reply.specs.Values.{byGroup, offsetsText, turnsText};
@@ -59,49 +56,30 @@ pub fn put_end(out: &mut [u8], at: usize, g: Group) -> usize
     put_by_group(out, at, g, b"ZERO", b"HEXAPOD", b"HEXAPOD")
 }
 
-// A space, an axis and an equals sign: three bytes, so that no loop is left in the machine code.
-fn put_label(out: &mut [u8], at: usize, label: &[u8; 3]) -> usize
-    requires { ⌜ (length (now label) ≡ 3) × (at + 3 ≤ length (now out)) ⌝ }
-    ensures { λ r. ⌜ Wrote (now (label .entry)) (now (out .entry)) at (now (out .exit)) r ⌝ }
-{
-    out[at] = label[0];
-    out[at + 1] = label[1];
-    out[at + 2] = label[2];
-    at + 3
-}
-
-fn put_offset(out: &mut [u8], at: usize, label: &[u8; 3], z: i64) -> usize
-    requires { ⌜ (length (now label) ≡ 3) × (natAbs z ≤ reach) × (at + 3 + length (value z) ≤ length (now out)) ⌝ }
-    ensures { λ r. ⌜ Wrote (now (label .entry) ++ value z) (now (out .entry)) at (now (out .exit)) r ⌝ }
-{
-    let i = put_label(out, at, label);
-    put_value(out, i, z)
-}
-
-fn put_turn(out: &mut [u8], at: usize, label: &[u8; 3], quarters: u8) -> usize
-    requires { ⌜ (length (now label) ≡ 3) × (quarters ≤ 3) × (at + 3 + length (degrees quarters) ≤ length (now out)) ⌝ }
-    ensures { λ r. ⌜ Wrote (now (label .entry) ++ degrees quarters) (now (out .entry)) at (now (out .exit)) r ⌝ }
-{
-    let i = put_label(out, at, label);
-    put_degrees(out, i, quarters)
-}
-
+// X= to Z=, each after a space. A label is written by a call of its own, so that it is a constant store in the machine code.
 fn put_offsets(out: &mut [u8], at: usize, t: Vec3) -> usize
     requires { ⌜ Within reach t × (at + length (offsetsText t) ≤ length (now out)) ⌝ }
     ensures { λ r. ⌜ Wrote (offsetsText t) (now (out .entry)) at (now (out .exit)) r ⌝ }
 {
-    let i = put_offset(out, at, b" X=", t.x);
-    let j = put_offset(out, i, b" Y=", t.y);
-    put_offset(out, j, b" Z=", t.z)
+    let a = put_text(out, at, b" X=");
+    let b = put_value(out, a, t.x);
+    let c = put_text(out, b, b" Y=");
+    let d = put_value(out, c, t.y);
+    let e = put_text(out, d, b" Z=");
+    put_value(out, e, t.z)
 }
 
+// U= to W=, each after a space.
 fn put_turns(out: &mut [u8], at: usize, r: Turns) -> usize
     requires { ⌜ Quarters r × (at + length (turnsText r) ≤ length (now out)) ⌝ }
     ensures { λ n. ⌜ Wrote (turnsText r) (now (out .entry)) at (now (out .exit)) n ⌝ }
 {
-    let i = put_turn(out, at, b" U=", r.u);
-    let j = put_turn(out, i, b" V=", r.v);
-    put_turn(out, j, b" W=", r.w)
+    let a = put_text(out, at, b" U=");
+    let b = put_degrees(out, a, r.u);
+    let c = put_text(out, b, b" V=");
+    let d = put_degrees(out, c, r.v);
+    let e = put_text(out, d, b" W=");
+    put_degrees(out, e, r.w)
 }
 
 // The six values, each after a space and its axis.

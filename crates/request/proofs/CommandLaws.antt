@@ -1,6 +1,6 @@
 -- The commands of document 01, one after the other and by the length of their words.
 use Prim.Native.Nat.{ℕ}
-use mathlib.Core.Path.{_≡_, refl, sym, _∙_}
+use mathlib.Core.Path.{_≡_, refl, sym, ap, _∙_}
 use mathlib.Core.List.{List, [], _∷_, _++_, append-assoc}
 use native.Mathlib.Omega.{arith}
 use mathlib.Core.Bool.{Bool, true, false, not}
@@ -9,19 +9,49 @@ use lib.Dec.{eqb}
 use lib.ListN.{length}
 use borrow.Author.Tests.{eqb-false, ne-eqb, not-true}
 use Rattle.model.specs.Lists.{all, same}
-use Rattle.model.specs.Request.{unknown, Command, definitions, edits, settings, queries, commands, readBy}
+use Rattle.model.specs.Request.{Reading, unknown, Command, definitions, edits, settings, queries, commands, readBy}
 use Rattle.model.proofs.Basics.{and-split, either}
+use Rattle.text.proofs.Choice.{Left, chosen, next, meant, found}
 use Rattle.text.proofs.Lists.{same-length}
 use Rattle.request.specs.Forms.{threeLetters}
 
+-- ---- one after the other
+
 module _ (c : Command) (cs : List Command) (w : List ℕ) (args : List (List ℕ)) where
-  pub hit : same w (c .first) ≡ true → readBy (c ∷ cs) w args ≡ c .read args
+  hit : same w (c .first) ≡ true → readBy (c ∷ cs) w args ≡ c .read args
   unfolding readBy
   hit e = rw (e, readBy)
 
-  pub miss : same w (c .first) ≡ false → readBy (c ∷ cs) w args ≡ readBy cs w args
+  miss : same w (c .first) ≡ false → readBy (c ∷ cs) w args ≡ readBy cs w args
   unfolding readBy
   miss e = rw (e, readBy)
+
+-- what a word that is no command asks
+abbrev pub noCommand : List (List ℕ) → Reading
+noCommand args = unknown
+
+-- the commands that a word may still be
+abbrev pub Tried : List Command → Type 0
+Tried cs = Left (λ c. c .first) (λ c. c .read) noCommand cs
+
+read-chosen : (cs : List Command) (w : List ℕ) (args : List (List ℕ)) → chosen (λ c. c .first) (λ c. c .read) noCommand cs w args ≡ readBy cs w args
+unfolding chosen readBy
+read-chosen [] w args = refl
+read-chosen (c ∷ cs) w args =
+    ⊎-elim (λ (e : same w (c .first) ≡ true). rw e (sym (hit c cs w args e)))
+    (λ (e : same w (c .first) ≡ false). rw e (read-chosen cs w args ∙ sym (miss c cs w args e)))
+    (either (same w (c .first)))
+
+module _ {cs : List Command} (t : Tried cs) where
+  -- the word is the next one
+  pub is-command : {r : Bool} → r ≡ same (t .word) (next t) → r ≡ true → (args : List (List ℕ)) → meant t args ≡ readBy cs (t .word) args
+  is-command e h args = ap (λ (f : List (List ℕ) → Reading). f args) (found t e h) ∙ read-chosen cs (t .word) args
+
+  -- it is one of those that are left, or none
+  pub is-left : (args : List (List ℕ)) → readBy (t .rest) (t .word) args ≡ readBy cs (t .word) args
+  is-left args = sym (read-chosen (t .rest) (t .word) args) ∙ ap (λ (f : List (List ℕ) → Reading). f args) (t .alike) ∙ read-chosen cs (t .word) args
+
+-- ---- by the length of their words
 
 -- words of another length
 abbrev other : ℕ → Command → Bool

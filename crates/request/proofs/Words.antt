@@ -14,7 +14,7 @@ use Rattle.model.specs.Words.{legalName}
 use Rattle.model.proofs.Basics.{same→≡, true-false}
 use Rattle.text.specs.declared.words.Word.{Word}
 use Rattle.text.specs.Cursor.{nextWord, wordOf, wordsFrom}
-use Rattle.text.proofs.WordLaws.{words-none, words-next}
+use Rattle.text.proofs.WordLaws.{word-by-word}
 
 module _ (line : List ℕ) (at : ℕ) (w : Word) (e : w ≡ nextWord line at) where
   empty : w .start ≡ w .end → wordOf line w ≡ []
@@ -25,12 +25,12 @@ module _ (line : List ℕ) (at : ℕ) (w : Word) (e : w ≡ nextWord line at) wh
   left = go (ℕ-discrete (w .start) (w .end))
     where
       go : Dec (w .start ≡ w .end) → ((wordsFrom line at ≡ []) × (wordOf line w ≡ [])) ⊎ (wordsFrom line at ≡ wordOf line w ∷ wordsFrom line (w .end))
-      go (yes h) = inl (words-none line at w e h, empty h)
-      go (no h) = inr (words-next line at w e h)
+      go (yes h) = inl (word-by-word line at w e .none h, empty h)
+      go (no h) = inr (word-by-word line at w e .more h)
 
   -- a word that has bytes is the first of those left
   pub at-word : 0 < length (wordOf line w) → wordsFrom line at ≡ wordOf line w ∷ wordsFrom line (w .end)
-  at-word l = words-next line at w e (λ h. let z : length (wordOf line w) ≡ 0 = ap length (empty h) in omega arith)
+  at-word l = word-by-word line at w e .more (λ h. let z : length (wordOf line w) ≡ 0 = ap length (empty h) in omega arith)
 
   -- what holds with no word, and with this word and any behind it, holds
   pub either-way : {A : Type 0} (f : List (List ℕ) → A) (x : A) → f [] ≡ x → ((ws : List (List ℕ)) → f (wordOf line w ∷ ws) ≡ x) → f (wordsFrom line at) ≡ x
@@ -41,8 +41,8 @@ module _ (line : List ℕ) (at : ℕ) (w : Word) (e : w ≡ nextWord line at) wh
   none-left = go (ℕ-discrete (w .start) (w .end))
     where
       go : Dec (w .start ≡ w .end) → eqb (w .start) (w .end) ≡ none? (wordsFrom line at)
-      go (yes h) = eq-eqb _ _ h ∙ rw (words-none line at w e h)
-      go (no h) = ne-eqb _ _ h ∙ rw (words-next line at w e h)
+      go (yes h) = eq-eqb _ _ h ∙ rw (word-by-word line at w e .none h)
+      go (no h) = ne-eqb _ _ h ∙ rw (word-by-word line at w e .more h)
 
 pub legal-some : (w : List ℕ) → legalName w ≡ true → 0 < length w
 unfolding legalName

@@ -4,8 +4,8 @@ use mathlib.Core.List.{List, [], _∷_, _++_}
 use Rattle.model.specs.Ascii.{ascii}
 use Rattle.model.specs.Request.{Reading, unknown, Command, definitions, edits, settings, definition, oneName, twoNames, fixedWords, levelWords, resultantWords}
 use Rattle.request.specs.Asked.{named}
-use Rattle.request.specs.declared.commands.Form.{Form}
-use Rattle.request.specs.declared.commands.Form.the-variants.{NoCommand, Definition, OneName, TwoNames, Password, Alone, Level, Resultants}
+use Rattle.request.specs.declared.command.Form.{Form}
+use Rattle.request.specs.declared.command.Form.the-variants.{NoCommand, Definition, OneName, TwoNames, Password, Alone, Level, Resultants}
 
 -- [Error 4; Commands] what arguments say in each form; no command is the reading that number 4 refuses
 abbrev pub readAs : Form → List (List ℕ) → Reading

@@ -1,7 +1,7 @@
 // The words behind the command, read in the form that it asks for.
 use super::Asked;
 use super::Request;
-use super::commands::Form;
+use super::command::Form;
 use facts::names::no_name;
 use model::Kind;
 use model::Name;

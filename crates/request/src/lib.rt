@@ -1,10 +1,10 @@
 // What a line asks for.
 mod arguments;
-mod commands;
+mod command;
 pub mod printable;
 
 use arguments::arguments;
-use commands::form_of;
+use command::form_of;
 use model::Kind;
 use model::Name;
 use model::Turns;

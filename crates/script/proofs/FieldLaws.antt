@@ -2,13 +2,14 @@
 use Prim.Native.Nat.{ℕ, suc, _+_, _-_, _<_, _≤_}
 use mathlib.Core.Path.{_≡_, refl, ap, _∙_}
 use mathlib.Core.List.{List, [], _∷_}
-use mathlib.Core.Bool.{Bool, true, false, _&&_}
+use mathlib.Core.Bool.{false}
 use native.Mathlib.Omega.{arith}
 use lib.Dec.{eqb}
 use lib.ListN.{length, take, drop, getD, length-take, length-drop}
 use lib.Seq.{drop-drop}
 use borrow.Author.Tests.{le-leb, lt-leb}
 use Rattle.model.specs.Lists.{none?, same}
+use Rattle.model.proofs.Basics.{and-true}
 use Rattle.print.specs.Over.{over}
 use Rattle.text.specs.declared.words.Word.{Word}
 use Rattle.text.specs.Cursor.{blanks, run, nextWord}
@@ -79,10 +80,6 @@ unfolding order hexOf
 by-fields text h e u = rw (le-leb (length text) longestLine h, e) u
 
 -- ---- a word of one byte
-
-and-true : (a : Bool) → a && true ≡ a
-and-true true = refl
-and-true false = refl
 
 pub same-one : (w : List ℕ) (b : ℕ) → length w ≡ 1 → same w (b ∷ []) ≡ eqb (getD w 0 0) b
 unfolding same

@@ -11,8 +11,7 @@ use lib.Dec.{eqb}
 use lib.ListN.{length, take, drop, getD, set, drop-of-length-le}
 use lib.Seq.{drop-cons, take-append-seam}
 use borrow.Author.Tests.{eq-eqb, ne-eqb, lt-ltb, le-ltb}
-use Rattle.model.proofs.Basics.{and-join}
-use Rattle.text.proofs.Lists.{and-false}
+use Rattle.model.proofs.Basics.{and-join, and-false}
 use Rattle.print.specs.Over.{over}
 use Rattle.print.proofs.Laws.{length-over, over-front}
 use Rattle.script.specs.declared.hex.Decoded.{Decoded}

@@ -12,7 +12,7 @@ use lib.Dec.{leb}
 use borrow.Author.Tests.{leb-true, le-leb, lt-leb}
 use Rattle.model.specs.Lists.{all}
 use Rattle.model.specs.Words.{digit, spelled}
-use Rattle.text.proofs.Lists.{and-false}
+use Rattle.model.proofs.Basics.{and-false}
 use Rattle.script.specs.Directive.{longestLent, lengthFrom, lengthOf}
 
 spelled-grows : (l : List ℕ) (a : ℕ) → a ≤ spelled a l

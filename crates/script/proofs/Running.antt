@@ -2,7 +2,6 @@
 use Prim.Native.Nat.{ℕ, suc, _+_, _-_, _≤_, _<_}
 use mathlib.Core.Path.{_≡_, refl, sym, ap, _∙_}
 use mathlib.Core.List.{List, [], _∷_, _++_}
-use mathlib.Core.Bool.{true, false}
 use native.Mathlib.Omega.{arith}
 use native.Mathlib.Decide.{decLt}
 use lib.ListN.{length, take, drop}
@@ -10,17 +9,17 @@ use Rattle.model.specs.Lists.{none?}
 use Rattle.model.specs.declared.State.{State as StoredState}
 use Rattle.model.specs.Stored.{View, viewOf}
 use Rattle.lines.specs.Before.{before}
-use Rattle.lines.specs.Feed.{Answer, Fed, Held, kept, fed, ended, holding}
+use Rattle.lines.specs.Feed.{Answer, Fed, kept, fed, ended, holding}
 use Rattle.lines.proofs.Feeding.{fed-nothing}
 use Rattle.lines.proofs.Places.{lineAt, fed-turn, fed-rest, fed-first, fed-on}
-use Rattle.print.specs.Over.{Wrote, over}
+use Rattle.print.specs.Over.{Wrote}
 use Rattle.print.proofs.Laws.{wrote-then, wrote-none}
 use Rattle.script.specs.declared.obey.Obeyed.{Obeyed}
 use Rattle.script.specs.declared.feed.Script.{Script}
-use Rattle.script.specs.Directive.{longestLine, longestLent}
+use Rattle.script.specs.Directive.{longestLine}
 use Rattle.script.specs.Answer.{longestAnswer}
 use Rattle.script.specs.Obey.{Obeys}
-use Rattle.script.specs.Run.{Place, place, following, answering, placeOf, heldOf, Keeps, Feeds, Ends}
+use Rattle.script.specs.Run.{Place, place, following, answering, placeOf, Keeps, Feeds, Ends}
 use Rattle.script.proofs.Cutting.{clips}
 
 -- ---- whole lines

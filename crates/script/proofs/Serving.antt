@@ -1,6 +1,6 @@
 -- A block of a script that is fed part by part: what is handed out for a part, and what is held after it.
 use Prim.Native.Nat.{ℕ, _+_, _-_, _≤_}
-use mathlib.Core.Path.{_≡_, refl, sym, ap, _∙_}
+use mathlib.Core.Path.{_≡_, sym, ap, _∙_}
 use mathlib.Core.List.{List, []}
 use native.Mathlib.Omega.{arith}
 use lib.ListN.{length, take, drop}
@@ -12,7 +12,7 @@ use Rattle.print.specs.Over.{Wrote}
 use Rattle.script.specs.declared.feed.Script.{Script}
 use Rattle.script.specs.declared.feed.Fed.{Fed as StoredFed}
 use Rattle.script.specs.Run.{Place, answering, placeOf, heldOf, given, Feeds}
-use Rattle.script.proofs.Cutting.{wrote-first, wrote-long}
+use Rattle.script.proofs.Cutting.{wrote-first}
 
 -- before the first byte
 pub given-nothing : (s : Script) (held : List ℕ) → heldOf s held ≡ given s held [] .held

@@ -17,6 +17,10 @@ said number text = joined (decimal number ∷ ascii " " ∷ hexed text ∷ ascii
 unfoldable pub complaint : ℕ → List ℕ
 complaint line = joined (ascii "? " ∷ decimal line ∷ ascii "\n" ∷ [])
 
--- no answer is longer
+-- what stands beside a call's bytes: a number of up to three digits, a space and LF
+abbrev pub beside : ℕ
+beside = 5
+
+-- no answer is longer: two digits for each byte of the longest lent buffer
 abbrev pub longestAnswer : ℕ
-longestAnswer = 2 * longestLent + 7
+longestAnswer = 2 * longestLent + beside

@@ -109,13 +109,16 @@ understood (w ∷ h ∷ n ∷ z ∷ zs) = unclear
 unfoldable pub order : List ℕ → Order
 order text = cond (leb (length text) longestLine) (understood (fields text)) unclear
 
--- ---- the answer of the code
+-- ---- the answers of the code
+-- Directives are the shared vectors' and not document 01's: a malformed one has none of its numbers and is answered by its line (`complaint` in Answer.antt).
+-- So each case is said to be a value or none, and at last an order, of which `unclear` is the refusal.
 
+-- a length, or none
 abbrev pub lengthTold : Length → Option ℕ
 lengthTold (Bytes n) = some n
 lengthTold Wrong = none
 
--- the bytes of a directive stand first in the buffer
+-- an order for each case; the bytes of a directive stand first in the buffer
 abbrev pub orderOf : Directive → List ℕ → Order
 orderOf (Line k n) b = line (take k b) n
 orderOf Restart b = restart
@@ -124,7 +127,7 @@ orderOf (Image k) b = start (take k b)
 orderOf Factory b = factory
 orderOf Malformed b = unclear
 
--- a field of bytes was read into a lent buffer
+-- bytes, or none: a field was read into a lent buffer
 abbrev pub bytesTold : Decoded → List ℕ → Option (List ℕ)
 bytesTold d b = cond (d .ok) (some (take (d .count) b)) none
 

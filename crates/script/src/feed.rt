@@ -2,6 +2,7 @@
 use crate::cut::join;
 use crate::cut::keep;
 use crate::obey::obey;
+use crate::parse::LONGEST_LENT;
 use lines::line_end;
 use model::State;
 use std::num::wrapping_add_u64;
@@ -10,8 +11,11 @@ ghost use Prim.Native.Nat.{_≤_};
 ghost use lib.ListN.{length, take};
 ghost use Rattle.script.specs.Run.{placeOf, Roomy, Begins, Feeds, Ends};
 
-// The number, a space, two digits for each byte of the longest lent buffer, and LF.
-const LONGEST_ANSWER: usize = 131079;
+// What stands beside a call's bytes: a number of up to three digits, a space and LF.
+const BESIDE: usize = 5;
+
+// Two digits for each byte of the longest lent buffer, and what stands beside them.
+const LONGEST_ANSWER: usize = 2 * LONGEST_LENT + BESIDE;
 
 // Between two lines: the state, the number of the next line, and how many bytes of an unfinished line are held.
 pub struct Script {

@@ -13,7 +13,7 @@ ghost use Rattle.model.specs.Stored.{viewOf, lineAnswer, imageAnswer};
 ghost use Rattle.engine.specs.Answers.{answeredOf};
 ghost use Rattle.machine.specs.Calls.{begunOf};
 ghost use Rattle.script.specs.Directive.{longestLine, longestLent};
-ghost use Rattle.script.specs.Answer.{longestAnswer};
+ghost use Rattle.script.specs.Answer.{beside, longestAnswer};
 ghost use Rattle.script.specs.Obey as Obey;
 ghost use Rattle.script.specs.Obey.{alone, blank, Answers, Obeys};
 
@@ -25,7 +25,7 @@ pub struct Obeyed {
 
 // A call that was lent a buffer, which holds its reply.
 fn say(r: Stepped, reply: &[u8], out: &mut [u8], at: usize) -> Obeyed
-    requires { ⌜ at + 2 * length (now reply) + 7 ≤ length (now out) ⌝ }
+    requires { ⌜ at + 2 * length (now reply) + beside ≤ length (now out) ⌝ }
     ensures { λ o. ⌜ Answers (Obey.lent (answeredOf r (now (reply .entry)))) (now (out .entry)) at (now (out .exit)) o ⌝ }
 {
     let state = r.state;
@@ -40,7 +40,7 @@ fn say(r: Stepped, reply: &[u8], out: &mut [u8], at: usize) -> Obeyed
 
 // A call that was lent none.
 fn say_begun(r: Begun, out: &mut [u8], at: usize) -> Obeyed
-    requires { ⌜ at + 7 ≤ length (now out) ⌝ }
+    requires { ⌜ at + beside ≤ length (now out) ⌝ }
     ensures { λ o. ⌜ Answers (alone (begunOf r)) (now (out .entry)) at (now (out .exit)) o ⌝ }
 {
     let end = put_said(out, at, r.number, b"");
@@ -49,7 +49,7 @@ fn say_begun(r: Begun, out: &mut [u8], at: usize) -> Obeyed
 }
 
 fn obey_line(s: State, line: &[u8], lent: &mut [u8], out: &mut [u8], at: usize) -> Obeyed
-    requires { ⌜ at + 2 * length (now lent) + 7 ≤ length (now out) ⌝ }
+    requires { ⌜ at + 2 * length (now lent) + beside ≤ length (now out) ⌝ }
     ensures { λ o. ⌜ Answers (Obey.lent (lineAnswer (viewOf s) (now (line .entry)) (blank (length (now (lent .entry)))))) (now (out .entry)) at (now (out .exit)) o ⌝ }
 {
     let r = machine::line(s, line, lent);
@@ -57,7 +57,7 @@ fn obey_line(s: State, line: &[u8], lent: &mut [u8], out: &mut [u8], at: usize) 
 }
 
 fn obey_write(s: State, lent: &mut [u8], out: &mut [u8], at: usize) -> Obeyed
-    requires { ⌜ at + 2 * length (now lent) + 7 ≤ length (now out) ⌝ }
+    requires { ⌜ at + 2 * length (now lent) + beside ≤ length (now out) ⌝ }
     ensures { λ o. ⌜ Answers (Obey.lent (imageAnswer (viewOf s) (blank (length (now (lent .entry)))))) (now (out .entry)) at (now (out .exit)) o ⌝ }
 {
     let r = machine::write_image(s, lent);

@@ -15,7 +15,7 @@ ghost use Rattle.script.specs.Directive.{longestLine, bytesAt, lengthTol
 // A longer line is no directive, and no longer buffer is lent.
 pub const LONGEST_LINE: usize = 262144;
 
-const LONGEST_LENT: usize = 65536;
+pub const LONGEST_LENT: usize = 65536;
 
 // The length of a buffer to be lent.
 pub enum Length {

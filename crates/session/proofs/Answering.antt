@@ -15,10 +15,9 @@ use Rattle.model.proofs.Digits.{decimal-short}
 use Rattle.print.proofs.Laws.{over-front}
 use Rattle.model.specs.declared.State.{State as StoredState}
 use Rattle.model.specs.Limits.{bufferLimit}
-use Rattle.model.specs.Memory.{State}
 use Rattle.model.specs.Machine.{Outcome, stepped, written}
-use Rattle.model.specs.Trace.{printed}
-use Rattle.model.specs.Stored.{FineState, holds, shapeless, Answered, ofOutcome, shaped, stateOf, viewOf}
+use Rattle.model.specs.Trace.{refusalText, printed}
+use Rattle.model.specs.Stored.{FineState, Answered, ofOutcome, shaped, stateOf}
 use Rattle.model.proofs.Basics.{either}
 use Rattle.model.proofs.Histories.Kept.{well-formed-kept}
 use Rattle.engine.specs.declared.answer.Stepped.{Stepped}
@@ -26,7 +25,7 @@ use Rattle.engine.specs.Answers.{answeredOf}
 use Rattle.model.proofs.Views.{view-is}
 use Rattle.reply.specs.Lines.{Replied}
 use Rattle.session.specs.Feed.{lent, said, outcome}
-use Rattle.session.specs.Blocks.{refusalText, Says, Answers}
+use Rattle.session.specs.Blocks.{Says, Answers}
 use Rattle.session.proofs.Buffer.{Seen, seen, any-buffer, Writes, taken-writes, turned-down}
 use Rattle.session.proofs.Whole.{lent-long}
 

@@ -1,28 +1,22 @@
 -- What a line prints and what it does to the state do not depend on what the lent buffer holds, if it is long enough; and of a line that is too long,
 -- one byte too many tells all.
-use Prim.Native.Nat.{ℕ, zero, suc, _+_, _-_, _≤_, _<_}
+use Prim.Native.Nat.{ℕ, suc, _≤_, _<_}
 use mathlib.Core.Path.{_≡_, refl, sym, ap, _∙_}
-use mathlib.Core.List.{List, [], _∷_, _++_}
-use mathlib.Core.Bool.{Bool, true, false, not, _||_}
-use mathlib.Core.Logic.{⊎-elim}
+use mathlib.Core.List.{List, _∷_}
+use mathlib.Core.Bool.{true, false}
 use native.Mathlib.Omega.{arith}
-use lib.Dec.{eqb, ltb}
+use lib.Dec.{eqb}
 use lib.ListN.{length, take, drop, length-append, length-drop}
-use borrow.Author.Tests.{le-ltb, lt-ltb, eqb-true, eqb-false, ne-eqb}
-use Rattle.model.proofs.Basics.{either}
-use Rattle.model.proofs.Ladder.Refusing.{step-fine, step-ill, judged-taken, judged-refused, refusals-change-nothing}
+use borrow.Author.Tests.{le-ltb, lt-ltb, ne-eqb}
+use Rattle.model.proofs.Ladder.Refusing.{by-case, carried-answers, refusals-change-nothing}
 use Rattle.model.specs.Limits.{bufferLimit, lineLimit}
 use Rattle.model.specs.Memory.{State}
-use Rattle.model.specs.WellFormed.{wellFormed}
-use Rattle.model.specs.Request.{Reading, reading, unknown, malformed, beyond, asks}
+use Rattle.model.specs.Request.{reading}
 use Rattle.model.specs.Refusals.{refusal, ladder, short, first, unreadable, readingLadder}
-use Rattle.model.specs.Machine.{Outcome, stepped, judged, carriedOut, answered, refused, written}
-use Rattle.model.specs.Effects.{next, withError}
-use Rattle.model.specs.Reply.{reply, decimal}
-use Rattle.model.specs.Ascii.{ascii}
-use lib.Seq.{take-append-seam, length-take-le, take-all}
+use Rattle.model.specs.Machine.{Outcome, stepped, answered, written}
+use lib.Seq.{length-take-le, take-all}
 use native.Mathlib.Decide.{decLt}
-use Rattle.model.specs.Trace.{printed}
+use Rattle.model.specs.Trace.{refusalText, printed}
 use Rattle.lines.proofs.Lent.{Shown, shown, shown-alike, text-answered}
 
 -- what is seen of an outcome: the state, and what is printed
@@ -52,7 +46,7 @@ printed-answered st t b = text-answered t b
 seen-shown : (o p : Outcome) → shown o ≡ shown p → seen o ≡ seen p
 unfolding printed
 seen-shown o p e =
-    ap {B = Seen} (λ (s : Shown). record { state = s .state; text = elim (eqb (s .number) 0) [ true ↦ s .text | false ↦ ascii "E " ++ (decimal (s .number) ++ ascii "\n") ] }) e
+    ap {B = Seen} (λ (s : Shown). record { state = s .state; text = elim (eqb (s .number) 0) [ true ↦ s .text | false ↦ refusalText (s .number) ] }) e
 
 -- ---- the two laws
 
@@ -79,26 +73,12 @@ clipped st l b h =
 written-long : (st : State) (t b : List ℕ) → length b ≤ length (answered st t b .buffer)
 written-long st t b = rw (length-append t (drop (length t) b), length-drop (length t) b) (omega arith)
 
-carried-long : (st : State) (r : Reading) (b : List ℕ) → length b ≤ length (carriedOut st r b .buffer)
-unfolding carriedOut
-carried-long st unknown b = written-long st [] b
-carried-long st malformed b = written-long st [] b
-carried-long st beyond b = written-long st [] b
-carried-long st (asks r) b = written-long (next st (st .volatile) r) (reply st (st .volatile) r) b
-
-judged-long : (st : State) (n : ℕ) (r : Reading) (b : List ℕ) → length b ≤ length (judged st n r b .buffer)
-judged-long st n r b =
-    ⊎-elim
-    (λ h. rw (judged-taken st n r b h) (carried-long st r b))
-    (λ h. rw (judged-refused st n r b h) (omega arith))
-    (either (eqb n 0))
-
 pub stays-long : (st : State) (l b : List ℕ) → length b ≤ length (stepped st l b .buffer)
 stays-long st l b =
-    ⊎-elim
-    (λ h. rw (step-fine st l b h) (judged-long st (refusal st l b) (reading l) b))
-    (λ h. rw (step-ill st l b h) (omega arith))
-    (either (wellFormed st))
+    by-case st l b (λ o. length b ≤ length (o .buffer))
+    (λ w. omega arith)
+    (λ n h k. omega arith)
+    (λ w z. let a = carried-answers st (reading l) in rw (a .2 b) (written-long (a .0) (a .1) b))
 
 -- ---- what an accepted line writes
 
@@ -112,29 +92,15 @@ answered-writes st t b =
     let e = printed-answered st t b in
     record { count = ap length (sym e); buffer = ap (λ (u : List ℕ). written u b) (sym e) }
 
-carried-writes : (st : State) (r : Reading) (b : List ℕ) → Writes (carriedOut st r b) b
-unfolding carriedOut
-carried-writes st unknown b = answered-writes st [] b
-carried-writes st malformed b = answered-writes st [] b
-carried-writes st beyond b = answered-writes st [] b
-carried-writes st (asks r) b = answered-writes (next st (st .volatile) r) (reply st (st .volatile) r) b
-
-judged-writes : (st : State) (n : ℕ) (r : Reading) (b : List ℕ) → judged st n r b .number ≡ 0 → Writes (judged st n r b) b
-judged-writes st n r b z =
-    ⊎-elim
-    (λ h. rw (judged-taken st n r b h) (carried-writes st r b))
-    (λ h. absurd (eqb-false n 0 h (sym (ap (λ (o : Outcome). o .number) (judged-refused st n r b h)) ∙ z)))
-    (either (eqb n 0))
-
 pub taken-writes : (st : State) (l b : List ℕ) → stepped st l b .number ≡ 0 → Writes (stepped st l b) b
-taken-writes st l b z =
-    ⊎-elim
-    (λ h. let e = step-fine st l b h in rw e (judged-writes st (refusal st l b) (reading l) b (sym (ap (λ (o : Outcome). o .number) e) ∙ z)))
-    (λ h. absurd (omega (arith, z, ap (λ (o : Outcome). o .number) (step-ill st l b h))))
-    (either (wellFormed st))
+taken-writes st l b =
+    by-case st l b (λ o. o .number ≡ 0 → Writes o b)
+    (λ w z. absurd (omega arith))
+    (λ n h k z. absurd (omega arith))
+    (λ w e z. let a = carried-answers st (reading l) in rw (a .2 b) (answered-writes (a .0) (a .1) b))
 
 -- a refused line prints its number and writes nothing
 pub turned-down : (st : State) (l b : List ℕ) → (stepped st l b .number ≡ 0 → ⊥) →
-    (printed (stepped st l b) ≡ ascii "E " ++ (decimal (stepped st l b .number) ++ ascii "\n")) × (stepped st l b .buffer ≡ b)
+    (printed (stepped st l b) ≡ refusalText (stepped st l b .number)) × (stepped st l b .buffer ≡ b)
 unfolding printed
 turned-down st l b n = (rw (ne-eqb (stepped st l b .number) 0 n, printed), refusals-change-nothing .lines st l b n .buffer)

@@ -2,19 +2,17 @@
 use Prim.Native.Nat.{ℕ, _+_, _≤_, _<_}
 use mathlib.Core.Path.{_≡_, ap, _∙_}
 use mathlib.Core.List.{List}
-use mathlib.Core.Bool.{true}
 use native.Mathlib.Omega.{arith}
 use lib.ListN.{length, drop}
 use Rattle.model.specs.declared.State.{State as StoredState}
 use Rattle.model.specs.Limits.{bufferLimit}
 use Rattle.model.specs.Memory.{State}
 use Rattle.model.specs.Machine.{stepped}
-use Rattle.model.specs.Stored.{systemOf, stateOf, memoryShaped}
-use Rattle.commands.specs.Done.{done, Doable}
+use Rattle.model.specs.Stored.{stateOf}
+use Rattle.commands.specs.Done.{Doable, Applied}
 use Rattle.commands.specs.declared.changed.Decision.{Decision}
 use Rattle.engine.specs.declared.answer.Step.{Step}
 use Rattle.engine.specs.Taken.{Takes, takenOf}
-use Rattle.memory.proofs.Shape.{shape-both, shape-parts}
 use Rattle.lines.specs.Before.{before}
 use Rattle.session.specs.Blocks.{Says, Run}
 use Rattle.session.proofs.Rest.{withRest, rest-again, put-again}
@@ -25,11 +23,8 @@ use Rattle.session.proofs.Running.{run-turn}
 -- a line's answer is said, and what was decided is still to be done: whatever stored state has it done goes on with the run
 pub record Turned (st₀ : State) (block out₀ out : List ℕ) (s : StoredState) (d : Decision) (used w : ℕ) : Type 0 where
   pub room : w ≤ length out₀
-  pub volatile : memoryShaped (s .volatile) ≡ true
-  pub permanent : memoryShaped (s .permanent) ≡ true
   pub doable : Doable (s .volatile) d
-  pub next : (s′ : StoredState) → stateOf s′ ≡ done (d .deed) (systemOf (d .system)) (stateOf s) →
-      memoryShaped (s′ .volatile) ≡ true → memoryShaped (s′ .permanent) ≡ true → Run st₀ block out₀ out s′ used w
+  pub next : {s′ : StoredState} → Applied s d s′ → Run st₀ block out₀ out s′ used w
 
 module _ (st₀ : State) (block out₀ out : List ℕ) (s : StoredState) (at w : ℕ) (run : Run st₀ block out₀ out s at w) where
   pub turned : (end : ℕ) → end ≡ at + before (drop at block) → end < length block → (line : List ℕ) → line ≡ lineAt block at →
@@ -45,9 +40,7 @@ module _ (st₀ : State) (block out₀ out : List ℕ) (s : StoredState) (at w :
       let q : length y ≡ length (rest out w) = as-long ∙ ap length again ∙ kept in
       record {
         room = omega (arith, says-room s (run .fine) line (rest out w) long o (takes .outcome) y n p q, rest-long out w, run .room, run .long);
-        volatile = shape-parts s (run .fine .shape) .0;
-        permanent = shape-parts s (run .fine .shape) .1;
         doable = takes .doable;
-        next = λ s′ state v u. rw (put-again out c w inside y)
-            (run-turn st₀ block out₀ out s at w run end e h line y s′ n l (answers s (run .fine) line (rest out w) long o (takes .outcome) y n p q s′ state (shape-both s′ v u)));
+        next = λ {s′} a. rw (put-again out c w inside y)
+            (run-turn st₀ block out₀ out s at w run end e h line y s′ n l (answers s (run .fine) line (rest out w) long o (takes .outcome) y n p q s′ (a .state) (a .shape (run .fine .shape))));
       }

@@ -1,9 +1,9 @@
 -- Block by block or whole, the same is printed: `whole`.
 use Prim.Native.Nat.{ℕ, _≤_}
-use mathlib.Core.Path.{_≡_, refl, sym, ap, _∙_}
+use mathlib.Core.Path.{_≡_, refl, ap, _∙_}
 use mathlib.Core.List.{List, [], _∷_, _++_}
 use native.Mathlib.Omega.{arith}
-use lib.ListN.{length, take, length-replicate}
+use lib.ListN.{length, length-replicate}
 use Rattle.model.specs.Lists.{pieces}
 use Rattle.model.specs.Limits.{bufferLimit}
 use Rattle.model.specs.Memory.{State}
@@ -12,7 +12,7 @@ use Rattle.model.specs.Trace.{printed, session, inputLines, ksrun}
 use Rattle.lines.specs.Feed.{Answer}
 use Rattle.lines.specs.Whole.{answers, Clips}
 use Rattle.lines.proofs.Whole.{whole-input}
-use Rattle.session.specs.Feed.{lent, answering, ended, said, outcome, enough}
+use Rattle.session.specs.Feed.{lent, answering, ended, said, outcome}
 use Rattle.session.specs.Whole.{Whole}
 use Rattle.session.proofs.Buffer.{Seen, any-buffer, clipped, stays-long}
 

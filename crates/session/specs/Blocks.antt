@@ -1,14 +1,13 @@
 -- What a block of input does to a session that is stored: the definitions of Feed.antt, with the lent buffer.
 use Prim.Native.Nat.{ℕ, _+_, _-_, _≤_, _<_}
 use mathlib.Core.Path.{_≡_}
-use mathlib.Core.List.{List, [], _++_}
+use mathlib.Core.List.{List, []}
 use lib.ListN.{length, take, drop}
 use Rattle.model.specs.declared.State.{State as StoredState}
-use Rattle.model.specs.Ascii.{ascii}
 use Rattle.model.specs.Limits.{bufferLimit}
 use Rattle.model.specs.Memory.{State}
-use Rattle.model.specs.Reply.{decimal}
 use Rattle.model.specs.Machine.{startFactory}
+use Rattle.model.specs.Trace.{refusalText}
 use Rattle.model.specs.Stored.{FineState, stateOf}
 use Rattle.reply.specs.Lines.{Replied}
 use Rattle.lines.specs.Before.{before}
@@ -27,10 +26,6 @@ pub record Begins (s : Session) : Type 0 where
   pub held : heldOf s ≡ holding startFactory []
   pub few : s .held .count ≤ enough
   pub fine : FineState (s .state)
-
--- [ksrun] what is printed for a refusal
-abbrev pub refusalText : ℕ → List ℕ
-refusalText n = ascii "E " ++ (decimal n ++ ascii "\n")
 
 -- so many bytes of answer stand in the buffer: those of a reply as they were, or those of a refusal
 pub record Says (number count : ℕ) (before after : List ℕ) (n : ℕ) : Type 0 where

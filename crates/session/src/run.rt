@@ -17,8 +17,9 @@ ghost use Prim.Native.Nat.{_≤_};
 ghost use lib.ListN.{length};
 ghost use Rattle.model.specs.Limits.{bufferLimit};
 ghost use Rattle.model.specs.Stored.{FineState};
+ghost use Rattle.model.specs.Trace.{refusalText};
 ghost use Rattle.reply.specs.Lines.{Replied};
-ghost use Rattle.session.specs.Blocks.{refusalText, Says, Runs};
+ghost use Rattle.session.specs.Blocks.{Says, Runs};
 
 // What a run left: the state, how many bytes of the block were used, and how many bytes of answers were written.
 pub struct Ran {

@@ -11,9 +11,7 @@ use lib.Dec.{eqb}
 use lib.ListN.{length, take, drop, getD, drop-of-length-le}
 use lib.Seq.{drop-cons}
 use Rattle.model.specs.Lists.{all, same}
-use Rattle.model.proofs.Basics.{either, same→≡}
--- for the crates that looked for them here
-pub use Rattle.model.proofs.Basics.{and-false, and-true}
+use Rattle.model.proofs.Basics.{and-false, either, same→≡}
 
 module _ {A B : Type 0} (f : A → B) where
   pub map-take : (n : ℕ) (l : List A) → map f (take n l) ≡ take n (map f l)

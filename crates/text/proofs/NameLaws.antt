@@ -1,23 +1,24 @@
 -- Names: what makes a word legal, byte by byte, and that a stored name gives its word back.
 use Prim.Native.Nat.{ℕ, suc, _+_, _-_, _<_, _≤_}
-use mathlib.Core.Path.{_≡_, refl, sym, _∙_}
+use mathlib.Core.Path.{_≡_, refl, sym, ap, _∙_}
 use mathlib.Core.List.{List, [], _∷_, _++_}
-use mathlib.Core.Bool.{true, false, _&&_}
-use mathlib.Core.Logic.{⊎-elim}
+use mathlib.Core.Bool.{Bool, true, false, cond, _&&_}
+use mathlib.Core.Option.{none, some}
 use native.Mathlib.Omega.{arith}
 use native.Mathlib.Numerals.{add-one}
-use borrow.Author.Tests.{le-leb, lt-leb, leb-true}
-use lib.Dec.{leb}
+use borrow.Author.Tests.{le-leb, lt-leb}
 use lib.ListN.{length, take, drop, getD, set, replicate}
 use lib.Seq.{take-suc, take-at, set-at, length-take-le, append-snoc}
 use Rattle.model.specs.Limits.{nameLimit}
 use Rattle.model.specs.Lists.{all}
 use Rattle.model.specs.Stored.{bytesOf}
+use Rattle.model.specs.Told.{Told, tells, refuses, orNumber}
 use Rattle.model.specs.Words.{legalName, capital, nameByte}
-use Rattle.model.proofs.Basics.{and-split, either}
+use Rattle.model.proofs.Basics.{and-false, and-true}
+use Rattle.model.proofs.Words.{legalName-short}
 use Rattle.text.specs.declared.names.NameRead.{NameRead}
-use Rattle.text.specs.Names.{nameRead, noName, stored}
-use Rattle.text.proofs.Lists.{and-false, and-true, all-next}
+use Rattle.text.specs.Names.{noName, stored, Reads}
+use Rattle.text.proofs.Lists.{all-next}
 
 -- ---- the word that a loop reads
 
@@ -57,34 +58,37 @@ module _ (w : List ℕ) (i : ℕ) where
 
 -- ---- the result
 
-pub read-none : (w : List ℕ) → legalName w ≡ false → nameRead w ≡ noName
-unfolding nameRead
-read-none w e = rw e
-
-pub read-some : (w : List ℕ) → legalName w ≡ true → nameRead w ≡ record { ok = true; name = stored w }
-unfolding nameRead
-read-some w e = rw e
-
--- a name read gives the word's bytes, and has room for them
-pub legal-short : (w : List ℕ) → legalName w ≡ true → length w ≤ nameLimit
-unfolding legalName
-legal-short [] e = omega arith
-legal-short (b ∷ bs) e = leb-true (suc (length bs)) nameLimit (and-split (capital b && all nameByte bs) (leb (suc (length bs)) nameLimit) e .1)
-
 pub stored-bytes : (w : List ℕ) → bytesOf (stored w) ≡ w
 stored-bytes w = take-at w (replicate (nameLimit - length w) 0) (length w) refl
 
--- for a caller of `read_name`
-module _ (w : List ℕ) (r : NameRead) (e : r ≡ nameRead w) where
-  pub name-ok : r .ok ≡ legalName w
-  name-ok = rw e (⊎-elim (λ t. rw (read-some w t, t)) (λ f. rw (read-none w f, f)) (either (legalName w)))
+pub reads-none : (w : List ℕ) {r : NameRead} → legalName w ≡ false → r ≡ noName → Reads w r
+unfolding orNumber
+reads-none w f e = rw e (record { told = rw f; name = rw f })
 
+pub reads-some : (w : List ℕ) {r : NameRead} → legalName w ≡ true → r ≡ record { ok = true; name = stored w } → Reads w r
+unfolding orNumber
+reads-some w t e = rw e (record { told = rw (t, stored-bytes w); name = rw t })
+
+-- the answer has a name exactly where the word is one
+told-alike : (s t : Bool) (a w : List ℕ) → _≡_ {A = Told (List ℕ)} (cond s (tells a) (refuses 5)) (orNumber 5 (cond t (some w) none)) → s ≡ t
+unfolding orNumber
+told-alike true true a w e = refl
+told-alike true false a w e = let z : _≡_ {A = ℕ} 0 5 = ap (λ (x : Told (List ℕ)). x .number) e in absurd (omega arith)
+told-alike false true a w e = let z : _≡_ {A = ℕ} 5 0 = ap (λ (x : Told (List ℕ)). x .number) e in absurd (omega arith)
+told-alike false false a w e = refl
+
+-- for a caller of `read_name`
+module _ (w : List ℕ) (r : NameRead) (e : Reads w r) where
+  pub name-ok : r .ok ≡ legalName w
+  name-ok = told-alike (r .ok) (legalName w) (bytesOf (r .name)) w (e .told)
+
+  -- a name that is read gives the word's bytes, and has room for them
   module _ (t : legalName w ≡ true) where
     pub name-is : r .name ≡ stored w
-    name-is = rw (e, read-some w t)
+    name-is = rw t at (e .name)
 
     pub name-bytes : bytesOf (r .name) ≡ w
     name-bytes = rw name-is (stored-bytes w)
 
     pub name-short : r .name .len ≤ nameLimit
-    name-short = rw name-is (legal-short w t)
+    name-short = rw name-is (legalName-short w t)

@@ -15,11 +15,11 @@ use lib.ListN.{length}
 use Rattle.model.specs.Limits.{wholeDigits, decimals, million}
 use Rattle.model.specs.Lists.{all, between, pieces, ahead}
 use Rattle.model.specs.Words.{digit, digits?, spelled, magnitude, positive, negative, number}
-use Rattle.model.proofs.Basics.{either}
-use Rattle.text.specs.declared.numbers.Num.the-variants.{Start, Minus, Whole, Point, Part, Wrong}
+use Rattle.model.proofs.Basics.{and-false, either}
+use Rattle.text.specs.declared.numbers.Num.the-variants.{Minus, Whole, Point, Part, Wrong}
+use Rattle.text.specs.Claims.{ByteByByte}
 use Rattle.text.specs.Numbers.{first, folded, valued}
 use Rattle.text.specs.Values.{withSign}
-use Rattle.text.proofs.Lists.{and-false}
 
 -- a magnitude with its sign
 signOf : Bool → Option ℕ → Option ℤ
@@ -262,7 +262,7 @@ minus-law [] = refl
 minus-law (b ∷ bs) = first-law true b bs
 
 -- the number of document 01
-pub number-read : (w : List ℕ) → number w ≡ valued (folded Start w)
+pub number-read : ByteByByte
 unfolding folded number signOf
 number-read [] = refl
 number-read (b ∷ bs) =

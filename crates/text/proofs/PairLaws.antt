@@ -1,5 +1,5 @@
 -- Axis pairs: the place of an axis word, and the values while they are read.
-use Prim.Native.Nat.{ℕ, zero, suc, _<_}
+use Prim.Native.Nat.{ℕ, zero, suc, _+_, _<_}
 use mathlib.Core.Path.{_≡_, refl, sym, ap, _∙_}
 use mathlib.Core.List.{List, [], _∷_, map}
 use mathlib.Core.Bool.{Bool, true, false, cond, not, _&&_}
@@ -22,33 +22,33 @@ use Rattle.model.specs.Words.{legalName, number, offset?, angle?}
 use Rattle.model.proofs.Basics.{true-false, and-split, either, least-now, least-later}
 use Rattle.text.specs.Pairs.{six, ranged, answered, pairsRead, valuesOf}
 use Rattle.text.specs.Readings.{readingTold}
+use Rattle.text.proofs.Choice.{chosen}
 
--- ---- the place of a text in a list of texts
+-- ---- the place of an axis word
 
-unfoldable pub placeIn : List (List ℕ) → List ℕ → ℕ
-placeIn [] w = 0
-placeIn (t ∷ ts) w = cond (same w t) 0 (suc (placeIn ts w))
+-- each text with its place, from a place on
+abbrev pub Placed : Type 0
+Placed = List ℕ × ℕ
 
-module _ (t : List ℕ) (ts : List (List ℕ)) (w : List ℕ) where
-  pub place-hit : same w t ≡ true → placeIn (t ∷ ts) w ≡ 0
-  unfolding placeIn
-  place-hit e = rw e
+unfoldable pub placed : ℕ → List (List ℕ) → List Placed
+placed k [] = []
+placed k (t ∷ ts) = (t, k) ∷ placed (suc k) ts
 
-  pub place-miss : same w t ≡ false → placeIn (t ∷ ts) w ≡ suc (placeIn ts w)
-  unfolding placeIn
-  place-miss e = rw e
+-- the place behind them for any other word
+abbrev pub placeOf : ℕ → List Placed → List ℕ → ℕ
+placeOf n = chosen (λ p. p .0) (λ p. p .1) n
 
-least-place : (ts : List (List ℕ)) (w : List ℕ) → least (length ts) (λ i. same w (getD ts i [])) ≡ placeIn ts w
-unfolding placeIn least
-least-place [] w = refl
-least-place (t ∷ ts) w =
-    ⊎-elim (λ e. least-now (length ts) (λ i. same w (getD (t ∷ ts) i [])) e ∙ rw e)
-    (λ e. least-later (length ts) (λ i. same w (getD (t ∷ ts) i [])) e ∙ rw (e, least-place ts w))
+least-place : (k n : ℕ) (ts : List (List ℕ)) (w : List ℕ) → n ≡ k + length ts → k + least (length ts) (λ i. same w (getD ts i [])) ≡ placeOf n (placed k ts) w
+unfolding chosen placed least
+least-place k n [] w e = omega arith
+least-place k n (t ∷ ts) w e =
+    ⊎-elim (λ h. rw (least-now (length ts) (λ i. same w (getD (t ∷ ts) i [])) h, h) (omega arith))
+    (λ h. rw (least-later (length ts) (λ i. same w (getD (t ∷ ts) i [])) h, h) (omega (arith, least-place (suc k) n ts w (omega arith))))
     (either (same w t))
 
-pub axis-place : (w : List ℕ) → axis w ≡ placeIn axisWords w
+pub axis-place : (w : List ℕ) → axis w ≡ placeOf 6 (placed 0 axisWords) w
 unfolding axis
-axis-place w = least-place axisWords w
+axis-place w = omega (arith, least-place 0 6 axisWords w refl)
 
 -- ---- values
 

@@ -17,17 +17,17 @@ use Rattle.text.specs.Numbers.{folded, valued}
 use Rattle.text.proofs.NumberBytes.{rest, fold-end}
 use Rattle.text.proofs.NumberLaws.{number-read}
 use Rattle.text.proofs.PairLaws.{pairs-none, pairs-short, pairs-number, pairs-on, pairs-axis}
-use Rattle.text.proofs.WordLaws.{startFrom, none-left, one-left, words-none, words-next}
+use Rattle.text.proofs.WordLaws.{startFrom, none-left, one-left, word-by-word}
 
 module _ (k : Kind) (line : List ℕ) (at : ℕ) (a : Word) (e : a ≡ nextWord line at) (vs : Values) where
   -- no word is left
   pub line-end : a .start ≡ a .end → pairs k (wordsFrom line at) vs ≡ some vs
-  line-end h = rw (words-none line at a e h) (pairs-none k vs)
+  line-end h = rw (word-by-word line at a e .none h) (pairs-none k vs)
 
   module _ (h : a .start ≡ a .end → ⊥) where
     -- the axis may not come
     pub line-axis : mayCome k (axis (wordOf line a)) vs ≡ false → pairs k (wordsFrom line at) vs ≡ none
-    line-axis m = rw (words-next line at a e h) (pairs-axis k (wordOf line a) vs (wordsFrom line (a .end)) m)
+    line-axis m = rw (word-by-word line at a e .more h) (pairs-axis k (wordOf line a) vs (wordsFrom line (a .end)) m)
 
     abbrev s : ℕ
     s = startFrom line (a .end)
@@ -40,7 +40,7 @@ module _ (k : Kind) (line : List ℕ) (at : ℕ) (a : Word) (e : a ≡ nextWord 
         (pairs-number k (wordOf line a) vs (rest line s) (wordsFrom line (s + run (drop s line))) (number-read (rest line s) ∙ v))
 
     pub line-number : valued (folded Start (rest line s)) ≡ none → pairs k (wordsFrom line at) vs ≡ none
-    line-number v = rw (words-next line at a e h) (number-case (run (drop s line)) refl v)
+    line-number v = rw (word-by-word line at a e .more h) (number-case (run (drop s line)) refl v)
 
     -- a pair is read
     module _ (z : ℤ) (v : valued (folded Start (rest line s)) ≡ some z) where
@@ -51,5 +51,5 @@ module _ (k : Kind) (line : List ℕ) (at : ℕ) (a : Word) (e : a ≡ nextWord 
       pub line-on : mayCome k (axis (wordOf line a)) vs ≡ true →
           pairs k (wordsFrom line at) vs ≡ pairs k (wordsFrom line (s + run (drop s line))) (set vs (axis (wordOf line a)) (some z))
       line-on m =
-          rw (words-next line at a e h, one-left line (a .end) (full (run (drop s line)) refl))
+          rw (word-by-word line at a e .more h, one-left line (a .end) (full (run (drop s line)) refl))
           (pairs-on k (wordOf line a) vs (rest line s) (wordsFrom line (s + run (drop s line))) z m (number-read (rest line s) ∙ v))

@@ -7,7 +7,7 @@ use mathlib.Core.Option.{some}
 use native.Mathlib.Nat.{mul-comm, mul-assoc, mul-one, add-mul, mod-one, mod-lt, mod-eq-of-lt, div-add-mod', add-mul-mod-self-right, mul-le-mul-right, pow-suc, one-le-pow}
 use native.Mathlib.Omega.{arith}
 use borrow.Author.Tests.{ne-eqb, le-leb}
-use lib.IntN.{ℤ, pos, negsuc, negℤ, natAbs}
+use lib.IntN.{pos, negsuc, negℤ}
 use lib.ListN.{length}
 use Rattle.model.specs.Limits.{wholeDigits, decimals, million}
 use Rattle.model.specs.Lists.{all, pieces, ahead, joined}
@@ -15,7 +15,7 @@ use Rattle.model.specs.Reply.{lastDigits, digitsOf, decimal, value}
 use Rattle.model.specs.Words.{digit, digits?, spelled, magnitude, positive, negative, number}
 use Rattle.model.proofs.Basics.{true-false, and-split, and-join}
 use Rattle.model.proofs.Digits.{length-digits, digits-above, decimal-short}
-use Rattle.text.specs.Numbers.{bound}
+use Rattle.text.specs.Claims.{PrintedThenRead}
 use Rattle.text.proofs.NumberLaws.{weigh, Cut, whole, more, cut}
 use Rattle.text.proofs.NumberRange.{digit-is}
 
@@ -122,7 +122,7 @@ unfolding decimal
 places q h = record { some-digit = unfold digitsOf in omega arith; enough = omega (arith, decimal-short wholeDigits q (omega arith) h, length-digits (digitsOf q) q) }
 
 -- every value in whole millionths with at most four digits before the point
-pub number-value : (z : ℤ) → natAbs z < bound → number (value z) ≡ some z
+pub number-value : PrintedThenRead
 unfolding value joined decimal
 number-value (pos n) h =
     let q = n / million in

@@ -1,4 +1,4 @@
--- The cursor's words are those of document 01. A caller that reads word after word from place 0 on uses `words-none` and `words-next`.
+-- The cursor's words are those of document 01. `word-by-word` is for a caller that reads one after the other.
 use Prim.Native.Nat.{ℕ, suc, _+_, _-_, _<_, _≤_}
 use mathlib.Core.Path.{_≡_, refl, sym, ap, _∙_}
 use mathlib.Core.List.{List, [], _∷_, map}
@@ -13,7 +13,8 @@ use Rattle.model.specs.Lists.{kept, none?, between, pieces, ahead}
 use Rattle.model.specs.Words.{words, upper}
 use Rattle.model.proofs.Basics.{and-split}
 use Rattle.text.specs.declared.words.Word.{Word}
-use Rattle.text.specs.Cursor.{lead, blanks, run, nextWord, wordAt, wordOf, wordsFrom, Within}
+use Rattle.text.specs.Cursor.{lead, blanks, run, nextWord, wordAt, wordsFrom, Within}
+use Rattle.text.specs.Claims.{WordByWord}
 use Rattle.text.proofs.Lists.{map-take, map-drop}
 
 -- ---- upper case
@@ -185,16 +186,15 @@ module _ (line : List ℕ) (at : ℕ) (w : Word) (e : w ≡ nextWord line at) wh
   pub word-on : at ≤ w .start
   word-on = rw e (omega arith)
 
-  -- no word is left
-  pub words-none : w .start ≡ w .end → wordsFrom line at ≡ []
-  words-none h = let p = ap (λ (v : Word). v .start) e in let q = ap (λ (v : Word). v .end) e in none-left line at (omega arith)
-
-  -- the word, and those behind it
-  pub words-next : (w .start ≡ w .end → ⊥) → wordsFrom line at ≡ wordOf line w ∷ wordsFrom line (w .end)
-  words-next h =
-      let p = ap (λ (v : Word). v .start) e in
-      let q = ap (λ (v : Word). v .end) e in
-      let s = start line at in
-      let r = run (drop s line) in
-      let z : s + r - s ≡ r = omega arith in
-      rw e (one-left line at (omega arith) ∙ ap (λ (n : ℕ). wordAt line s n ∷ wordsFrom line (s + r)) (sym z))
+-- no word is left, or the word and those behind it
+pub word-by-word : WordByWord
+word-by-word line at w e =
+    let p = ap (λ (v : Word). v .start) e in
+    let q = ap (λ (v : Word). v .end) e in
+    let s = start line at in
+    let r = run (drop s line) in
+    let z : s + r - s ≡ r = omega arith in
+    record {
+      none = λ h. none-left line at (omega arith);
+      more = λ h. rw e (one-left line at (omega arith) ∙ ap (λ (n : ℕ). wordAt line s n ∷ wordsFrom line (s + r)) (sym z));
+    }

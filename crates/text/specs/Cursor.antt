@@ -1,4 +1,4 @@
--- Words of a line by a cursor. The laws in proofs/WordLaws.antt tie them to the words of document 01.
+-- Words of a line by a cursor. That they are those of document 01 is claimed in Claims.antt.
 use Prim.Native.Nat.{ℕ, suc, _+_, _-_, _≤_}
 use mathlib.Core.List.{List, [], _∷_, map}
 use mathlib.Core.Bool.{Bool, true, false, cond, Bool·beq}

@@ -1,3 +1,4 @@
+pub mod Claims
 pub mod Cursor
 pub mod Names
 pub mod Numbers

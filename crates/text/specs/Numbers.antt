@@ -1,4 +1,4 @@
--- A number read byte by byte. That a whole word read so is the number of document 01 is proved in proofs/NumberLaws.antt.
+-- A number read byte by byte. That a whole word read so is the number of document 01 is claimed in Claims.antt.
 use Prim.Native.Nat.{ℕ, _+_, _*_, _-_, _/_, _^_, _≤_, _<_}
 use mathlib.Core.List.{List, [], _∷_}
 use mathlib.Core.Bool.{Bool, true, false, cond, _&&_}

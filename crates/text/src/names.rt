@@ -9,7 +9,7 @@ ghost use mathlib.Core.Path.{_≡_};
 ghost use Rattle.model.specs.Lists.{same};
 ghost use Rattle.model.specs.Words as model;
 ghost use Rattle.text.specs.Cursor.{wordOf, Within};
-ghost use Rattle.text.specs.Names.{nameRead, noName};
+ghost use Rattle.text.specs.Names.{Reads, noName};
 
 // The name that a word spells, if it is a legal one. Bytes past the last one are 0.
 pub struct NameRead {
@@ -33,7 +33,7 @@ pub fn name_byte(b: u8) -> bool
 
 pub fn read_name(line: &[u8], w: Word) -> NameRead
     requires { ⌜ Within (now line) w ⌝ }
-    ensures { λ r. ⌜ r ≡ nameRead (wordOf (now (line .entry)) w) ⌝ }
+    ensures { λ r. ⌜ Reads (wordOf (now (line .entry)) w) r ⌝ }
 {
     let start = w.start;
     let n = w.end - start;

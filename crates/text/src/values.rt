@@ -1,6 +1,8 @@
 // Values in whole millionths: of a millimetre for X Y Z, of a degree for U V W.
+use facts::limits::MOST_TURNS;
 use facts::limits::OFFSET_LIMIT;
 use facts::limits::QUARTER_TURN;
+use facts::limits::WHOLE_TURN;
 use signed::magnitude;
 use signed::negated;
 ghost use mathlib.Core.Path.{_≡_};
@@ -30,7 +32,7 @@ pub fn angle_fine(z: i64) -> bool
     ensures { λ r. ⌜ r ≡ angle? z ⌝ }
 {
     let m = magnitude(z);
-    m % QUARTER_TURN == 0 && m / QUARTER_TURN <= 3
+    m % QUARTER_TURN == 0 && m / QUARTER_TURN <= MOST_TURNS as u64
 }
 
 // The quarter turns that a listed angle is kept as.
@@ -40,7 +42,7 @@ pub fn quarter_turns(z: i64) -> u8
 {
     let q = (magnitude(z) / QUARTER_TURN) as u8;
     if z < 0 {
-        return 4 - q;
+        return WHOLE_TURN - q;
     }
     q
 }

@@ -1,5 +1,5 @@
 -- `line` is document 01's step, and a state that is not well formed comes back with 1.
-use mathlib.Core.Path.{_≡_, sym, _∙_}
+use mathlib.Core.Path.{sym, _∙_}
 use Rattle.engine.proofs.Views.{fine-of, ill-line}
 use Rattle.machine.proofs.Calls.{line-fine}
 use borrow.Author.Needs.{needs}

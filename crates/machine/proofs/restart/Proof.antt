@@ -1,5 +1,5 @@
 -- `restart` gives document 01's restart: the permanent memory in both, or 1 and all as it was.
-use mathlib.Core.Path.{_≡_, sym, _∙_}
+use mathlib.Core.Path.{sym, _∙_}
 use borrow.Author.Tests.{not-true, not-false}
 use Rattle.engine.proofs.Views.{fine-of, ill-restart}
 use Rattle.machine.proofs.Calls.{restart-taken}

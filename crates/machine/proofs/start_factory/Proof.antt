@@ -1,5 +1,5 @@
 -- `start_factory` gives the factory state.
-use mathlib.Core.Path.{_≡_, ap, _∙_}
+use mathlib.Core.Path.{ap, _∙_}
 use Rattle.model.specs.Memory.{Memory, started}
 use Rattle.model.specs.Stored.{holds}
 use Rattle.machine.proofs.Calls.{start-holds}

@@ -57,6 +57,12 @@ up-to-in (suc n) x h k = go (ℕ-discrete x (suc n)) (λ k′. up-to-in n x h k�
 
 -- ---- links
 
+-- a link leads to the predecessor; at place 0 there is none
+pub predOf-is : (l : List System) (q : ℕ) → predOf l q ≡ systemAt l q .pred
+unfolding predOf systemAt
+predOf-is l zero = refl
+predOf-is l (suc i) = refl
+
 -- predecessors are places of the list
 abbrev pub InRange : List System → Type 0
 InRange l = (j : ℕ) → systemAt l j .pred ≤ length l
@@ -136,9 +142,7 @@ module _ (l : List System) where
 
   module _ (places : InRange l) where
     pub pred-in-range : (q : ℕ) → predOf l q ≤ length l
-    unfolding predOf
-    pred-in-range zero = omega arith
-    pred-in-range (suc j) = places (suc j)
+    pred-in-range q = rw (predOf-is l q) (places q)
 
     pub hop-in-range : (i q : ℕ) → q ≤ length l → hop l i q ≤ length l
     unfolding hop

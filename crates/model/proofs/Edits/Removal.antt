@@ -12,7 +12,7 @@ use lib.Seq.{getD-take, getD-drop, getD-append-add, length-take-le}
 use Rattle.model.specs.Memory.{System, systemAt, nameOf, blank}
 use Rattle.model.specs.Chain.{predOf, hop, ownPose, noRing}
 use Rattle.model.specs.Effects.{movedUp, mended, mendedSystem}
-use Rattle.model.proofs.Chains.Hops.{InRange, no-return, ends-in-time, ring-free, ring-free-from}
+use Rattle.model.proofs.Chains.Hops.{predOf-is, InRange, no-return, ends-in-time, ring-free, ring-free-from}
 use Rattle.model.proofs.Chains.Carry.{Alike, AlikeFrom}
 use Rattle.model.proofs.Chains.Relink.{Misses}
 
@@ -178,17 +178,9 @@ module _ (l : List System) (a : ℕ) (pos : 0 < a) (there : a ≤ length l) wher
   -- ---- no ring
 
   module _ (places : InRange l) (free : noRing l ≡ true) where
-    pub pred-of-gone : predOf l a ≡ systemAt l a .pred
-    unfolding predOf
-    pred-of-gone = go a pos
-      where
-        go : (a : ℕ) → 0 < a → predOf l a ≡ systemAt l a .pred
-        go zero h = absurd (omega arith)
-        go (suc i) h = refl
-
     pub not-its-own : systemAt l a .pred ≡ a → ⊥
     unfolding hop
-    not-its-own e = let z = no-return l (length l) 0 a (ring-free l free a there) (pred-of-gone ∙ e) in omega arith
+    not-its-own e = let z = no-return l (length l) 0 a (ring-free l free a there) (predOf-is l a ∙ e) in omega arith
 
     pub removed-in-range : InRange (without l a)
     removed-in-range j =
@@ -207,7 +199,7 @@ module _ (l : List System) (a : ℕ) (pos : 0 < a) (there : a ≤ length l) wher
         go : Dec (q ≡ a) → (g : ℕ) × (hop (without l a) g (mended a b (predOf l q)) ≡ 0) → (g : ℕ) × (hop (without l a) g (mended a b q) ≡ 0)
         go (yes y) r =
             let e : mended a b q ≡ mended a b (predOf l q) =
-            ap (mended a b) y ∙ mended-gone a b ∙ sym (mended-pred a b) ∙ ap (mended a b) (sym pred-of-gone ∙ ap (predOf l) (sym y)) in
+            ap (mended a b) y ∙ mended-gone a b ∙ sym (mended-pred a b) ∙ ap (mended a b) (sym (predOf-is l a) ∙ ap (predOf l) (sym y)) in
             (r .0, ap (hop (without l a) (r .0)) e ∙ r .1)
         go (no n) r = (suc (r .0), ap (hop (without l a) (r .0)) (removed-alike q n .pred) ∙ r .1)
 

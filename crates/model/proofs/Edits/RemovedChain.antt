@@ -14,11 +14,11 @@ use Rattle.model.specs.Memory.{System, systemAt, nameOf}
 use Rattle.model.specs.Use.{inGroup}
 use Rattle.model.specs.Chain.{predOf, hop, steps, chain, onChain, noRing}
 use Rattle.model.specs.Effects.{mended}
-use Rattle.model.proofs.Chains.Hops.{InRange, pred-in-range, no-return, ring-free}
+use Rattle.model.proofs.Chains.Hops.{predOf-is, InRange, pred-in-range, no-return, ring-free}
 use Rattle.model.proofs.Chains.Steps.{Ends, steps-zero, steps-end, steps-pred, chain-pred, chain-zero, on-chain→hop, hop→on-chain}
 use Rattle.model.proofs.Chains.Carry.{carried-steps}
 use Rattle.model.proofs.Chains.Relink.{Misses}
-use Rattle.model.proofs.Edits.Removal.{mended-zero, mended-gone, mended-pred, mended-fixed, mended-in-range, without, without-length, removed-alike, removed-alike-from, removed-no-ring, not-its-own, pred-of-gone}
+use Rattle.model.proofs.Edits.Removal.{mended-zero, mended-gone, mended-pred, mended-fixed, mended-in-range, without, without-length, removed-alike, removed-alike-from, removed-no-ring, not-its-own}
 
 module _ (l : List System) (a : ℕ) (pos : 0 < a) (there : a ≤ length l) (places : InRange l) (free : noRing l ≡ true) where
   abbrev p : ℕ
@@ -66,7 +66,7 @@ module _ (l : List System) (a : ℕ) (pos : 0 < a) (there : a ≤ length l) (pla
   -- a is a user system, and so its chain begins with p
   after-gone : (steps l a ≡ suc (steps l p)) × (chain l a ≡ p ∷ chain l p)
   after-gone =
-      let e = pred-of-gone l a pos there places free in
+      let e = predOf-is l a in
       (steps-pred l a pos (ends a there) ∙ rw e, chain-pred l a pos (ends a there) ∙ rw e)
 
   abbrev Law : ℕ → Type 0
@@ -132,7 +132,7 @@ module _ (l : List System) (a : ℕ) (pos : 0 < a) (there : a ≤ length l) (pla
   -- what went is not on its predecessor's chain
   missed : Misses l a p
   unfolding hop
-  missed i e = let z = no-return l (length l) i a (ends a there) (ap (hop l i) (pred-of-gone l a pos there places free) ∙ e) in omega arith
+  missed i e = let z = no-return l (length l) i a (ends a there) (ap (hop l i) (predOf-is l a) ∙ e) in omega arith
 
   pub removed-steps-off : (q : ℕ) → q ≤ length l → Misses l a q → steps (without l a) (mended a (systemAt l a .pred) q) ≡ steps l q
   removed-steps-off q h off = carried-steps l l′ f q (removed-alike-from l a pos there q off) (ends q h) (ends-after q h)

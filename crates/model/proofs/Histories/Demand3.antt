@@ -16,8 +16,8 @@ use Rattle.model.specs.Memory.{System, Memory, State, Ref, systemAt, nam
 use Rattle.model.specs.Chain.{predOf, hop, steps, chain, resultant}
 use Rattle.model.specs.WellFormed.{wellFormed}
 use Rattle.model.specs.Request.{reading, asks, list, resultants}
-use Rattle.model.specs.Refusals.{first, short}
-use Rattle.model.specs.Reply.{decimal, sixValues, listing, everySystem, resultantLine, listed}
+use Rattle.model.specs.Refusals.{first}
+use Rattle.model.specs.Reply.{decimal, sixValues, listing, everySystem, resultantLine}
 use Rattle.model.specs.Demand.{startState, Defined, OperatingDefined, Reaches, Sound, Replies, Listed, Demand3}
 use Rattle.model.specs.Trace.{afterCalls, afterLines}
 use Rattle.model.proofs.Open.{definitions-open}

@@ -5,10 +5,10 @@ use mathlib.Core.List.{List, [], _∷_}
 use mathlib.Core.Bool.{Bool, true, false, _||_}
 use mathlib.Core.Option.{Option, none, some}
 use native.Mathlib.Omega.{arith}
-use borrow.Author.Tests.{leb-true, le-leb}
+use borrow.Author.Tests.{leb-true}
 use lib.Dec.{eqb}
 use Rattle.model.specs.Types.{Kind, Vec3, Turns}
-use Rattle.model.specs.Lists.{any, between}
+use Rattle.model.specs.Lists.{any}
 use Rattle.model.specs.Memory.{Memory, State, factory, started, placeNamed, userNamed}
 use Rattle.model.specs.Words.{legalName, reserved}
 use Rattle.model.specs.WellFormed.{memoryFine, wellFormed}
@@ -17,10 +17,10 @@ use Rattle.model.specs.Refusals.{ofLine?, first, absent, changeLadder, r
 use Rattle.model.specs.Effects.{withVolatile, withError, withName, put, fresh, linked, removedAt, changed, next}
 use Rattle.model.specs.Image.{accepted}
 use Rattle.model.specs.Machine.{carriedOut, stepped, restart, startImage}
-use Rattle.model.specs.Trace.{Call, Line, line, again, called, afterCalls, afterLines}
+use Rattle.model.specs.Trace.{Call, Line, line, restarting, called, afterCalls, afterLines}
 use Rattle.model.specs.Demand.{Start, factory-start, image-start, startState}
 use Rattle.model.specs.Claims.{applies, LegalDefinition, WellFormedKept}
-use Rattle.model.proofs.Basics.{and-split, and-join, or-false, or-right, true-false}
+use Rattle.model.proofs.Basics.{and-split, or-false, or-right, true-false}
 use Rattle.model.proofs.Open.{definitions-open}
 use Rattle.model.proofs.Ladder.First.{Clear, clear-of}
 use Rattle.model.proofs.Ladder.Refusing.{by-case, restart-fine}
@@ -120,8 +120,8 @@ module _ (st : State) (w : wellFormed st ≡ true) where
       refused-kept
       (λ f z. carried-kept (reading bytes) (reading-legal bytes) (clear-of st bytes b z) b)
 
-  again-kept : wellFormed (restart st .state) ≡ true
-  again-kept = rw (restart-fine st w) (started-fine (st .permanent) (parts .permanent))
+  restart-kept : wellFormed (restart st .state) ≡ true
+  restart-kept = rw (restart-fine st w) (started-fine (st .permanent) (parts .permanent))
 
 -- ---- the starts
 
@@ -143,7 +143,7 @@ calls-kept : (st : State) (cs : List Call) → wellFormed st ≡ true → wellFo
 unfolding afterCalls called
 calls-kept st [] w = w
 calls-kept st (line bytes b ∷ cs) w = calls-kept (stepped st bytes b .state) cs (line-kept st w bytes b)
-calls-kept st (again ∷ cs) w = calls-kept (restart st .state) cs (again-kept st w)
+calls-kept st (restarting ∷ cs) w = calls-kept (restart st .state) cs (restart-kept st w)
 
 lines-kept : (st : State) (cs : List Line) → wellFormed st ≡ true → wellFormed (afterLines st cs) ≡ true
 unfolding afterLines
@@ -154,7 +154,7 @@ pub well-formed-kept : WellFormedKept
 well-formed-kept =
     record {
       line = λ st bytes b w. line-kept st w bytes b;
-      again = again-kept;
+      restarting = restart-kept;
       factory = started-fine _ factory-fine;
       image = image-kept;
       calls = calls-kept;

@@ -107,7 +107,7 @@ saved-comes-back st w line b s z later none =
     λ c h. ap (λ (s : State). s .volatile) (image-back end w₂ c h) ∙ kept in
     record {
       memory = back;
-      lists = lists-alike st (restart end .state) w (well-formed-kept .again end w₂) back;
+      lists = lists-alike st (restart end .state) w (well-formed-kept .restarting end w₂) back;
       image-memory = again;
       image-lists = λ c h. lists-alike st _ w (well-formed-kept .image _) (again c h);
     }

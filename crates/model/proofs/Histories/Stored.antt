@@ -1,23 +1,22 @@
 -- Histories over stored states: each stands for the machine's own history, so what holds of that holds of it.
-use Prim.Native.Nat.{ℕ, _≤_, _<_}
+use Prim.Native.Nat.{ℕ, _≤_}
 use mathlib.Core.Path.{_≡_, refl, sym, ap, _∙_}
-use mathlib.Core.List.{List, [], _∷_, _++_, map}
-use mathlib.Core.Bool.{Bool, true, false, not, _&&_}
-use mathlib.Core.Option.{some}
+use mathlib.Core.List.{List, map}
+use mathlib.Core.Bool.{true, not, _&&_}
 use lib.Dec.{eqb}
 use lib.ListN.{length, take, drop}
 use lib.Seq.{take-append-seam}
 use Rattle.model.specs.Types.{StoredState}
 use Rattle.model.specs.Ascii.{ascii}
 use Rattle.model.specs.Limits.{bufferLimit}
-use Rattle.model.specs.Memory.{Memory, State}
+use Rattle.model.specs.Memory.{State}
 use Rattle.model.specs.Request.{reading}
 use Rattle.model.specs.Reply.{listing, everySystem, resultantLine}
-use Rattle.model.specs.Machine.{Outcome, answered, stepped, restart, startFactory, startImage}
-use Rattle.model.specs.Trace.{Call, Line, line, again, called, afterCalls, afterLines}
-use Rattle.model.specs.Demand.{Start, factory-start, image-start, startState, asksToEnable, noneTaken, steady, Replies}
+use Rattle.model.specs.Machine.{answered, stepped, restart}
+use Rattle.model.specs.Trace.{Call, Line, called, afterCalls, afterLines}
+use Rattle.model.specs.Demand.{Start, startState, asksToEnable, noneTaken, steady, Replies}
 use Rattle.model.specs.Stored.{holds, stateOf, viewOf, Answered, Restarted, ofOutcome, lineAnswer, restartAnswer}
-use Rattle.model.specs.Histories.{Returned, ReturnedAlone, standsFor, LinePromise, RestartPromise, Begins, at-factory, at-image, Calls, Lines, steadyBy, Stands, KltPrints, StoredAfterBoth, StoredDemand3, StoredChecklist}
+use Rattle.model.specs.Histories.{Returned, ReturnedAlone, standsFor, LinePromise, RestartPromise, Begins, at-factory, at-image, Calls, Lines, steadyBy, Stands, KltPrints, StoredDemand3, StoredChecklist}
 use Rattle.model.specs.Histories as stored
 use Rattle.model.proofs.Histories.Demand3.{demand-3}
 use Rattle.model.proofs.Histories.Checklist.{checklist}

@@ -15,8 +15,8 @@ use Rattle.model.specs.Memory.{System, Memory}
 use Rattle.model.specs.WellFormed.{isKind, systemFine, operatingFine, enabledFine, memoryFine}
 use Rattle.model.specs.Image.{edition, whole, numbers, systemBytes, enabledBytes, image, give, upTo, several, mostByte, readSystem, readSystems, enabledFrom, readEnabled, readContents, readMemory, whollyRead, accepted}
 use Rattle.model.specs.ImageClaims.{ReadsBack, AcceptedExactly, OneMemory}
-use Rattle.model.proofs.Basics.{true-false, and-split}
-use Rattle.model.proofs.Image.Readers.{then, gave, one-read, nothing, passed, chosen}
+use Rattle.model.proofs.Basics.{true-false, none-some, and-split}
+use Rattle.model.proofs.Image.Readers.{then, gave, one-read, passed, chosen}
 use Rattle.model.proofs.Image.Limits.{place-within, parts}
 use Rattle.model.proofs.Image.Numbers.{up-to-whole, whole-up-to}
 use Rattle.model.proofs.Image.Several.{Taken, repeated-back, repeated-told, TakenNumbers, several-told, numbers-taken, numbers-first, read-two, read-three, read-four, listed}
@@ -120,7 +120,7 @@ no-rest (b ∷ l) e = true-false (sym e)
 -- what is accepted as m: m is well formed, and these are its bytes
 was-read : (bs : List ℕ) (m : Memory) (o : Option (Memory × List ℕ)) → readMemory bs ≡ o → whollyRead o ≡ some m → (memoryFine m ≡ true) × (image m ≡ bs)
 unfolding whollyRead
-was-read bs m none r e = nothing e
+was-read bs m none r e = none-some e
 was-read bs m (some p) r e =
     let g = passed (none? (p .1) && memoryFine (p .0)) (p .0) m e in
     let f = and-split (none? (p .1)) (memoryFine (p .0)) (g .0) in

@@ -1,6 +1,6 @@
 -- How large the numbers of a well-formed memory's image are, and how long the image is.
 use Prim.Native.Nat.{ℕ, suc, _+_, _*_, _≤_, _<_}
-use mathlib.Core.Path.{_≡_, sym}
+use mathlib.Core.Path.{_≡_}
 use mathlib.Core.List.{List, [], _∷_, _++_, map}
 use mathlib.Core.Bool.{true, _&&_}
 use mathlib.Core.Logic.{⊎-elim}
@@ -14,11 +14,12 @@ use Rattle.model.specs.Lists.{all, joined}
 use Rattle.model.specs.Limits.{maxSystems, nameLimit, offsetLimit}
 use Rattle.model.specs.Kinds.{ofKind}
 use Rattle.model.specs.Memory.{System, Memory}
-use Rattle.model.specs.Words.{capital, nameByte, legalName, offset?}
+use Rattle.model.specs.Words.{offset?}
 use Rattle.model.specs.WellFormed.{isKind, systemFine, operatingFine, enabledFine, memoryFine}
 use Rattle.model.specs.Image.{edition, whole, signedCode, numbers, systemBytes, partNumbers, enabledBytes, image}
 use Rattle.model.specs.ImageClaims.{Fits}
-use Rattle.model.proofs.Basics.{and-split, or-split, true-false}
+use Rattle.model.proofs.Basics.{and-split, or-split}
+use Rattle.model.proofs.Words.{legalName-short}
 use Rattle.model.proofs.Image.Wholes.{length-whole}
 
 -- ---- the numbers
@@ -32,11 +33,6 @@ pub record SystemWithin (l : List System) (s : System) : Type 0 where
   pub v : s .turns .v ≤ 3
   pub w : s .turns .w ≤ 3
   pub pred : s .pred ≤ length l
-
-name-within : (n : List ℕ) → legalName n ≡ true → length n ≤ nameLimit
-unfolding legalName
-name-within [] e = true-false (sym e)
-name-within (b ∷ bs) e = leb-true (suc (length bs)) nameLimit (and-split (capital b && all nameByte bs) _ e .1)
 
 offset-within : (z : ℤ) → offset? z ≡ true → signedCode z ≤ 2 * offsetLimit
 unfolding offset?
@@ -63,7 +59,7 @@ system-within l s e =
     let uvw = and-split _ _ (t .1) in
     let uv = and-split (leb (s .turns .u) 3) (leb (s .turns .v) 3) (uvw .0) in
     record {
-      name = name-within (s .name) (n .0);
+      name = legalName-short (s .name) (n .0);
       x = offset-within (s .offset .x) (xy .0);
       y = offset-within (s .offset .y) (xy .1);
       z = offset-within (s .offset .z) (xyz .1);

@@ -10,9 +10,9 @@ use native.Mathlib.Omega.{arith}
 use lib.Dec.{ltb, leb}
 use borrow.Author.Tests.{lt-ltb, le-ltb, ltb-true, ltb-false, le-leb, leb-true, leb-false, lt-leb}
 use Rattle.model.specs.Image.{whole, above, shortest, within, upTo}
-use Rattle.model.proofs.Basics.{either, and-split}
+use Rattle.model.proofs.Basics.{none-some, either, and-split}
 use Rattle.model.proofs.Image.Wholes.{whole-last, whole-more, by-groups}
-use Rattle.model.proofs.Image.Readers.{passed, nothing, one-read}
+use Rattle.model.proofs.Image.Readers.{passed, one-read}
 
 -- ---- the first byte
 
@@ -55,7 +55,7 @@ whole-above b v h g p =
 above-gave : (b : ℕ) (o : Option (ℕ × List ℕ)) (n : ℕ) (rest : List ℕ) → above b o ≡ some (n, rest)
     → (v : ℕ) × (o ≡ some (v, rest)) × (b < 256) × (0 < v) × (n ≡ b - 128 + 128 * v)
 unfolding above
-above-gave b none n rest e = nothing e
+above-gave b none n rest e = none-some e
 above-gave b (some p) n rest e =
     let g = passed (ltb b 256 && ltb 0 (p .0)) (b - 128 + 128 * p .0, p .1) (n, rest) e in
     let t = and-split (ltb b 256) (ltb 0 (p .0)) (g .0) in
@@ -63,7 +63,7 @@ above-gave b (some p) n rest e =
 
 pub whole-shortest : (bs : List ℕ) (n : ℕ) (rest : List ℕ) → shortest bs ≡ some (n, rest) → bs ≡ whole n ++ rest
 unfolding shortest
-whole-shortest [] n rest e = nothing e
+whole-shortest [] n rest e = none-some e
 whole-shortest (b ∷ bs) n rest e =
     ⊎-elim (λ t. last (ltb-true b 128 t)) (λ t. more (ltb-false b 128 t) (whole-shortest bs)) (either (ltb b 128))
   where
@@ -81,7 +81,7 @@ whole-shortest (b ∷ bs) n rest e =
 
 pub within-le : (most : ℕ) (o : Option (ℕ × List ℕ)) (n : ℕ) (rest : List ℕ) → within most o ≡ some (n, rest) → (o ≡ some (n, rest)) × (n ≤ most)
 unfolding within
-within-le most none n rest e = nothing e
+within-le most none n rest e = none-some e
 within-le most (some p) n rest e =
     let g = passed (leb (p .0) most) p (n, rest) e in
     (ap some (g .1), rw (ap (λ (q : ℕ × List ℕ). q .0) (g .1)) at (leb-true (p .0) most (g .0)))

@@ -4,18 +4,15 @@ use mathlib.Core.Path.{_≡_, refl, ap}
 use mathlib.Core.List.{List}
 use mathlib.Core.Bool.{Bool, true, false, cond}
 use mathlib.Core.Option.{Option, none, some}
-use native.Mathlib.Omega.{arith}
 use Rattle.model.specs.Image.{Reader, _>>=_, give, fail, give?}
+use Rattle.model.proofs.Basics.{none-some}
 
 -- ---- something and nothing
-
-pub nothing : {A C : Type 0} {y : A} → _≡_ {A = Option A} none (some y) → C
-nothing e = let q : _≡_ {A = ℕ} 0 1 = cc in absurd (omega arith)
 
 -- a test that gave something was passed, and gave that
 pub passed : {A : Type 0} (t : Bool) (x y : A) → _≡_ {A = Option A} (cond t (some x) none) (some y) → (t ≡ true) × (x ≡ y)
 passed true x y e = (refl, cc)
-passed false x y e = nothing e
+passed false x y e = none-some e
 
 pub one-some : {A : Type 0} {a b : A} → _≡_ {A = Option A} (some a) (some b) → a ≡ b
 one-some e = cc
@@ -29,7 +26,7 @@ one-read {A} {B} {a} {b} {r} {s} e =
 pub chosen : {A : Type 0} (t : Bool) (r : Reader A) (bs : List ℕ) {p : A × List ℕ} → cond t r fail bs ≡ some p → (t ≡ true) × (r bs ≡ some p)
 unfolding fail
 chosen true r bs e = (refl, e)
-chosen false r bs e = nothing e
+chosen false r bs e = none-some e
 
 -- what was there already
 module _ {A : Type 0} (bs : List ℕ) where
@@ -43,7 +40,7 @@ module _ {A : Type 0} (bs : List ℕ) where
 
   pub given : (o : Option A) {a : A} {rest : List ℕ} → give? o bs ≡ some (a, rest) → (o ≡ some a) × (bs ≡ rest)
   unfolding give? give fail
-  given none e = nothing e
+  given none e = none-some e
   given (some x) e = let q = one-read e in (ap some (q .0), q .1)
 
 -- ---- one reader after the other
@@ -63,5 +60,5 @@ module _ {A B : Type 0} (r : Reader A) (f : A → Reader B) (bs : List ℕ) wher
   gave {b} {rest} e = cases (r bs) refl
     where
       cases : (o : Option (A × List ℕ)) → r bs ≡ o → (a : A) × (mid : List ℕ) × (r bs ≡ some (a, mid)) × (f a mid ≡ some (b, rest))
-      cases none q = nothing (rw (then-none q) at e)
+      cases none q = none-some (rw (then-none q) at e)
       cases (some p) q = (p .0, p .1, q, rw (then q) at e)

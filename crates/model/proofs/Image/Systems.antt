@@ -19,8 +19,8 @@ use Rattle.model.specs.Kinds.{kinds, ofKind}
 use Rattle.model.specs.Memory.{System}
 use Rattle.model.specs.WellFormed.{systemFine}
 use Rattle.model.specs.Image.{numbers, signedCode, systemBytes, give, fail, give?, several, mostByte, mostOffset, signedOf, kindOf, readBytes, readName, systemFrom, readPlaced, readSystem}
-use Rattle.model.proofs.Basics.{either}
-use Rattle.model.proofs.Image.Readers.{then, gave, given, give-some, one-read, one-some, nothing, passed}
+use Rattle.model.proofs.Basics.{none-some, either}
+use Rattle.model.proofs.Image.Readers.{then, gave, given, give-some, one-read, one-some, passed}
 use Rattle.model.proofs.Image.Limits.{code-within, system-within}
 use Rattle.model.proofs.Image.Several.{TakenNumbers, several-told, numbers-taken, read-two, read-three, read-four, listed}
 
@@ -29,7 +29,7 @@ use Rattle.model.proofs.Image.Several.{TakenNumbers, several-told, numb
 name-told : (n : ℕ) (bs name rest : List ℕ) → readName n bs ≡ some (name, rest) → (bs ≡ name ++ rest) × (length name ≡ n)
 unfolding readName readBytes fail
 name-told n bs name rest e =
-    ⊎-elim (λ t. taken (rw t at e)) (λ t. nothing (rw t at e)) (either (leb n nameLimit))
+    ⊎-elim (λ t. taken (rw t at e)) (λ t. none-some (rw t at e)) (either (leb n nameLimit))
   where
     taken : readBytes n bs ≡ some (name, rest) → (bs ≡ name ++ rest) × (length name ≡ n)
     taken r =
@@ -56,7 +56,7 @@ kind-code Kld = refl
 
 kind-told : (ks : List Kind) (c : ℕ) (k : Kind) → kindOf ks c ≡ some k → ofKind k .code ≡ c
 unfolding kindOf
-kind-told [] c k e = nothing e
+kind-told [] c k e = none-some e
 kind-told (j ∷ ks) c k e =
     ⊎-elim (λ (t : eqb (ofKind j .code) c ≡ true). let q = one-some (rw (t, kindOf) at e) in rw (← q) (eqb-true (ofKind j .code) c t))
     (λ (t : eqb (ofKind j .code) c ≡ false). kind-told ks c k (rw (t, kindOf) at e))

@@ -2,16 +2,17 @@
 use Prim.Native.Nat.{ℕ, _≤_}
 use mathlib.Core.Path.{_≡_, refl, sym, ap, _∙_}
 use mathlib.Core.Bool.{Bool, true, false}
-use mathlib.Core.List.{List}
+use mathlib.Core.List.{List, []}
 use mathlib.Core.Logic.{⊎-elim}
 use native.Mathlib.Omega.{arith}
-use borrow.Author.Tests.{eqb-true, eqb-false, leb-true}
-use lib.Dec.{eqb, leb}
+use borrow.Author.Tests.{eqb-true, eqb-false}
+use lib.Dec.{eqb}
 use Rattle.model.specs.Memory.{State, restarted}
 use Rattle.model.specs.WellFormed.{wellFormed}
 use Rattle.model.specs.Refusals.{ofLine?, refusal, ladder, short}
-use Rattle.model.specs.Effects.{withError}
+use Rattle.model.specs.Effects.{withError, next}
 use Rattle.model.specs.Request.{Reading, reading, unknown, malformed, beyond, asks}
+use Rattle.model.specs.Reply.{reply}
 use Rattle.model.specs.Image.{image}
 use Rattle.model.specs.Machine.{Outcome, Begun, refused, answered, began, carriedOut, judged, stepped, restart, writeImage}
 use Rattle.model.specs.Claims.{Untouched, RefusalsChangeNothing}
@@ -36,12 +37,16 @@ pub judged-taken : (st : State) (n : ℕ) (r : Reading) (b : List ℕ) → eqb n
 unfolding judged
 judged-taken st n r b e = rw (e, judged)
 
-pub carried-number : (st : State) (r : Reading) (b : List ℕ) → carriedOut st r b .number ≡ 0
+-- what is carried out is an answer, of a state and a text that the lent buffer does not tell
+pub carried-answers : (st : State) (r : Reading) → (st′ : State) × (text : List ℕ) × ((b : List ℕ) → carriedOut st r b ≡ answered st′ text b)
 unfolding carriedOut
-carried-number st unknown b = refl
-carried-number st malformed b = refl
-carried-number st beyond b = refl
-carried-number st (asks r) b = refl
+carried-answers st unknown = (st, [], λ b. refl)
+carried-answers st malformed = (st, [], λ b. refl)
+carried-answers st beyond = (st, [], λ b. refl)
+carried-answers st (asks r) = (next st (st .volatile) r, reply st (st .volatile) r, λ b. refl)
+
+pub carried-number : (st : State) (r : Reading) (b : List ℕ) → carriedOut st r b .number ≡ 0
+carried-number st r b = ap (λ (o : Outcome). o .number) (carried-answers st r .2 b)
 
 pub judged-number : (st : State) (n : ℕ) (r : Reading) (b : List ℕ) → judged st n r b .number ≡ n
 judged-number st n r b = go (eqb n 0) refl

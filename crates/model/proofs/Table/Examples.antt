@@ -29,6 +29,7 @@ unfolding sessions-open
 of-lines = record {
   words = refl;
   fixed-words = refl;
+  counts = refl;
   names = refl;
   reserved-names = refl;
   numbers = refl;

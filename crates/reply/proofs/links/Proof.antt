@@ -8,11 +8,12 @@ use Rattle.model.specs.Memory.{fixedRef}
 use Rattle.model.specs.Reply.{linkLine}
 use Rattle.chains.proofs.Copies.{length-mapped}
 use Rattle.print.specs.Over.{Wrote}
+use Rattle.model.proofs.Shape.{shaped-count}
 use Rattle.reply.specs.Types.{Operating}
 use Rattle.reply.specs.Lines.{further}
 use Rattle.reply.proofs.ListLaws.{Going, plan-room, plan-start, plan-end, going-on, going-room, going-within, going-turn}
 use Rattle.reply.proofs.PlanLaws.{lineAt, links-plan}
-use Rattle.reply.proofs.StoredLaws.{few, name-fits, pred-fits}
+use Rattle.reply.proofs.StoredLaws.{name-fits, pred-fits}
 use Rattle.reply.proofs.TurnLaws.{link-turn}
 use Rattle.reply.proofs.links.Statement.{statement}
 use Rattle.reply.proofs.links.Tie as tie
@@ -28,7 +29,7 @@ long s = search (length-mapped, needs)
 
 -- an index below the count is one of the array
 within : (c : tie.In-loop Inv-loop μ-loop) → c .before .loop .i < 16
-within c = let s = c .before .before .before .before .before .before .before .before in omega (arith, few (s .args .t1) (s .pre .0 .shape) (long s), c .loop-test .taken)
+within c = let s = c .before .before .before .before .before .before .before .before in omega (arith, shaped-count (s .args .t1) (s .pre .0 .shape), c .loop-test .taken)
 
 put-fixed-links-requires : tie.Need-put-fixed-links-requires Inv-loop μ-loop
 put-fixed-links-requires c κs = let s = c .before .before .before in omega (arith, plan-room (links-plan (s .args .t1) (s .pre .0) (s .args .reply .now) (s .pre .1) (long s)))
@@ -52,7 +53,7 @@ slot-within c =
     let i = c .before .before .before .loop .i in
     let h = c .before .before .loop-test .taken in
     let p = pred-fits (s .args .t1) (s .pre .0 .shape) (long s) (s .pre .0 .formed) i h in
-    (omega (arith, p, h, c .slot .ensures), omega (arith, p, c .slot .ensures, few (s .args .t1) (s .pre .0 .shape) (long s)))
+    (omega (arith, p, h, c .slot .ensures), omega (arith, p, c .slot .ensures, shaped-count (s .args .t1) (s .pre .0 .shape)))
 
 mul-p : tie.Need-mul-p Inv-loop μ-loop
 mul-p c = omega (arith, slot-within c .1)

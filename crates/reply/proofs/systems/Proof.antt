@@ -8,11 +8,12 @@ use Rattle.model.specs.Memory.{fixedRef}
 use Rattle.model.specs.Reply.{systemLine}
 use Rattle.chains.proofs.Copies.{length-mapped}
 use Rattle.print.specs.Over.{Wrote}
+use Rattle.model.proofs.Shape.{shaped-count}
 use Rattle.reply.specs.Types.{Operating}
 use Rattle.reply.specs.Lines.{further}
 use Rattle.reply.proofs.ListLaws.{Going, plan-room, plan-start, plan-end, going-on, going-room, going-within, going-turn}
 use Rattle.reply.proofs.PlanLaws.{lineAt, systems-plan}
-use Rattle.reply.proofs.StoredLaws.{few, writable}
+use Rattle.reply.proofs.StoredLaws.{writable}
 use Rattle.reply.proofs.TurnLaws.{system-turn}
 use Rattle.reply.proofs.systems.Statement.{statement}
 use Rattle.reply.proofs.systems.Tie as tie
@@ -28,7 +29,7 @@ long s = search (length-mapped, needs)
 
 -- an index below the count is one of the array
 within : (c : tie.In-loop Inv-loop μ-loop) → c .before .loop .i < 16
-within c = let s = c .before .before .before .before .before .before .before .before in omega (arith, few (s .args .t1) (s .pre .0 .shape) (long s), c .loop-test .taken)
+within c = let s = c .before .before .before .before .before .before .before .before in omega (arith, shaped-count (s .args .t1) (s .pre .0 .shape), c .loop-test .taken)
 
 put-fixed-systems-requires : tie.Need-put-fixed-systems-requires Inv-loop μ-loop
 put-fixed-systems-requires c κs = let s = c .before .before .before in omega (arith, plan-room (systems-plan (s .args .t1) (s .pre .0) (s .args .reply .now) (s .pre .1) (long s)))

@@ -3,7 +3,7 @@ use mathlib.Core.Path.{_≡_, sym, ap, _∙_}
 use native.Mathlib.Omega.{arith}
 use Rattle.model.specs.Limits.{maxSystems}
 use Rattle.chains.specs.Frames.{framed}
-use Rattle.chains.specs.Walk.{Walk, walkOf, walked}
+use Rattle.chains.specs.Walk.{Walk, walked}
 use Rattle.chains.proofs.Reaching.{UserPlace, walked-fixed, in-preds, steps-link, enough-on, can-link, walked-on, few-steps}
 use borrow.Fn.Kinds.{In}
 use borrow.Fn.PlainCycle.{Measures, is, falls, and}

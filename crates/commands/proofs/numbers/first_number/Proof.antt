@@ -1,15 +1,23 @@
--- Each rung goes before the ladder of those behind it.
+-- Each rung goes before the ladder of those behind it; the numbers that come before the first of them have no condition here.
 use Prim.Native.Nat.{ℕ}
-use mathlib.Core.Path.{_≡_, refl}
+use mathlib.Core.Path.{_≡_, refl, _∙_}
 use mathlib.Core.List.{[]}
 use borrow.Author.Needs.{needs}
+use lib.ListN.{drop}
 use Rattle.model.specs.Refusals.{first}
+use Rattle.commands.specs.declared.numbers.Rungs.{Rungs}
+use Rattle.commands.specs.Rungs.{rungsOf}
 use Rattle.commands.proofs.numbers.first_number.Statement.{statement}
 use Rattle.commands.proofs.numbers.first_number.Tie as tie
 
 no-more : _≡_ {A = ℕ} 0 (first [])
 unfolding first
 no-more = refl
+
+-- 2 to 6
+none-before : (r : Rungs) → first (drop 5 (rungsOf r)) ≡ first (rungsOf r)
+unfolding first
+none-before r = refl
 
 returns : tie.Need-returns
 returns c =
@@ -20,6 +28,7 @@ returns c =
     let two = three .before in
     let one = two .before in
     c .rung7 .ensures _ (six .rung6 .ensures _ (five .rung5 .ensures _ (four .rung4 .ensures _ (three .rung3 .ensures _ (two .rung2 .ensures _ (one .rung .ensures [] no-more))))))
+    ∙ none-before (one .before .args .r)
 
 pub first-number-spec : {M : Type 1} → statement M
 first-number-spec =

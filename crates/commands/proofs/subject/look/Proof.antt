@@ -1,13 +1,11 @@
 use mathlib.Core.Path.{_≡_, refl, sym, ap, _∙_}
-use native.Mathlib.Omega.{arith}
 use borrow.Author.Needs.{needs}
 use lib.ListN.{length}
 use Rattle.model.specs.Limits.{maxSystems}
 use Rattle.model.specs.Memory.{System, systemAt}
 use Rattle.model.specs.Stored.{systemsOf, memoryOf}
 use Rattle.chains.proofs.Copies.{length-mapped}
-use Rattle.memory.proofs.Laws.{length-systems}
-use Rattle.memory.proofs.Shape.{shaped-count}
+use Rattle.model.proofs.Shape.{systemsOf-count}
 use Rattle.commands.proofs.Asked.{place-is}
 use Rattle.commands.proofs.subject.look.Statement.{statement}
 use Rattle.commands.proofs.subject.look.Tie as tie
@@ -29,7 +27,7 @@ returns c =
       named = places .0 .shaped (start .pre);
       links = places .1 .1 .0;
       counted = places .1 .1 .1;
-      stored = sym (length-systems m (m .count) (long start) (omega (arith, shaped-count m (start .pre))));
+      stored = sym (systemsOf-count m (start .pre) (long start));
       enabled = refl;
     }
 

@@ -21,7 +21,7 @@ returns c =
     let start = c .before .before .before .before .before .before .before .before .before in
     taken-answers {o = stepped (stateOf (start .args .s)) (start .args .line .now) (start .args .reply .now)} _
     (c .before .before .before .before .decide .ensures (start .args .s) refl refl refl (start .pre))
-    (c .applied .ensures .0) (c .applied .ensures .1 (start .pre .shape))
+    (c .applied .ensures) (start .pre .shape)
 
 pub obey-spec : {M : Type 1} → statement M
 obey-spec = tie.close (tie.spec decide-requires applied-requires (λ c. search needs) returns)

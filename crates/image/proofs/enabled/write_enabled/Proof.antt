@@ -1,8 +1,7 @@
-use Prim.Native.Nat.{ℕ, _+_, _≤_}
+use Prim.Native.Nat.{ℕ}
 use mathlib.Core.Path.{_≡_}
 use mathlib.Core.List.{List, [], _∷_, _++_}
 use native.Mathlib.Omega.{arith}
-use lib.ListN.{length}
 use Rattle.model.specs.Image.{whole, numbers, enabledBytes}
 use Rattle.image.proofs.Left.{Left, left-all, left-wrote, left-fits, left-done}
 use Rattle.image.proofs.EnabledSteps.{single-bytes, pair-bytes}
@@ -30,11 +29,8 @@ module _ (c : tie.After-operating2) where
   is-pair : enabledBytes (start .args .e) ≡ whole 1 ++ places
   is-pair = pair-bytes (start .args .e) (c .operating2 .given .0 .0) (c .operating2 .given .0 .1 .0) (c .operating2 .given .1)
 
-  all-left : Left (whole 1 ++ places) (start .args .at) (start .args .out .now) (whole 1 ++ places) (start .args .at) (start .args .out .now)
-  all-left = left-all (whole 1 ++ places) (start .args .at) (start .args .out .now)
-
-  room : start .args .at + length (whole 1 ++ places) ≤ length (start .args .out .now)
-  room = rw is-pair at (start .pre)
+  all-left : Left (enabledBytes (start .args .e)) (start .args .at) (start .args .out .now) (whole 1 ++ places) (start .args .at) (start .args .out .now)
+  all-left = left-all is-pair (start .pre)
 
 write-numbers-requires : tie.Need-write-numbers-requires
 write-numbers-requires c κs =
@@ -44,13 +40,13 @@ write-numbers-requires c κs =
 write-number-requires : tie.Need-write-number-requires
 write-number-requires c κs =
     let o = c .before .before in
-    left-fits (whole 1) (places o) (all-left o) (room o)
+    left-fits (whole 1) (places o) (all-left o)
 
 write-numbers-requires-2 : tie.Need-write-numbers-requires-2
 write-numbers-requires-2 c κs =
     let w = c .before .before .before in
     let o = w .before .before .before in
-    (omega arith, left-fits (four o) [] (left-wrote (all-left o) (w .write-number .ensures)) (room o))
+    (omega arith, left-fits (four o) [] (left-wrote (all-left o) (w .write-number .ensures)))
 
 returns : tie.Need-returns
 returns c = let w = c .before .before in rw (is-single (w .before .before .before)) (w .write-numbers .ensures)
@@ -60,7 +56,7 @@ returns-2 c =
     let x = c .before .before in
     let w = x .before .before .before .before in
     let o = w .before .before .before in
-    rw (is-pair o) (left-done (left-wrote (left-wrote (all-left o) (w .write-number .ensures)) (x .write-numbers2 .ensures)))
+    left-done (left-wrote (left-wrote (all-left o) (w .write-number .ensures)) (x .write-numbers2 .ensures))
 
 pub write-enabled-spec : {M : Type 1} → statement M
 write-enabled-spec =

@@ -1,16 +1,14 @@
-use Rattle.model.specs.declared.System.{System as StoredSystem}
-use Prim.Native.Nat.{ℕ, _+_, _-_, _≤_, _<_}
+use Prim.Native.Nat.{_-_, _≤_, _<_}
 use mathlib.Core.Path.{_≡_, refl, sym, _∙_}
 use mathlib.Core.Bool.{true}
-use mathlib.Core.List.{List, [], _∷_, _++_, map, map-append}
-use native.Mathlib.Numerals.{add-one}
+use mathlib.Core.List.{map}
 use native.Mathlib.Omega.{arith}
 use borrow.Author.Needs.{needs}
 use borrow.Author.Tests.{not-true, not-false}
-use lib.ListN.{length, take, drop, set, length-set}
-use lib.Seq.{take-suc-set}
+use lib.ListN.{length, take, drop, length-set}
 use Rattle.model.specs.Limits.{maxSystems}
 use Rattle.model.specs.Lists.{all}
+use Rattle.memory.proofs.Edits.{stored-last}
 use Rattle.memory.proofs.Shape.{all-more}
 use Rattle.model.specs.Stored.{systemOf, nameShaped}
 use Rattle.model.proofs.Basics.{true-false}
@@ -26,9 +24,6 @@ Inv-loop bytes at count systems₀ next₀ i₀ systems next i =
 
 abbrev μ-loop : tie.MeasureT-loop
 μ-loop bytes at count systems₀ next₀ i₀ systems next i = count - i
-
-stored-more : (v : List StoredSystem) (i : ℕ) (x : StoredSystem) → i < length v → map systemOf (take (i + 1) (set v i x)) ≡ map systemOf (take i v) ++ (systemOf x ∷ [])
-stored-more v i x h = rw (add-one, take-suc-set v i x h) (map-append systemOf (take i v) (x ∷ []))
 
 loop-holds : tie.Need-loop-holds Inv-loop μ-loop
 unfolding all
@@ -56,7 +51,7 @@ loop-again c =
     let e = told-value 14 _ _ (rw (not-false (r .read-system .result .ok) (t .if1 .left)) at (r .read-system .ensures .0)) in (
       omega (arith, h),
       length-set v i x ∙ l .loop .inv .1,
-      rw (stored-more v i x g) (l .loop .inv .2 ∙ turn-read readSystem _ i _ (map systemOf (take i v)) (systemOf x) _ h e),
+      rw (stored-last v i x g) (l .loop .inv .2 ∙ turn-read readSystem _ i _ (map systemOf (take i v)) (systemOf x) _ h e),
       all-more nameShaped x (r .read-system .ensures .1) v i g (l .loop .inv .3),
     )
 

@@ -1,4 +1,4 @@
-use Prim.Native.Nat.{ℕ, _+_, _≤_}
+use Prim.Native.Nat.{ℕ}
 use mathlib.Core.Path.{_≡_}
 use mathlib.Core.List.{List, [], _∷_, _++_, map}
 use native.Mathlib.Omega.{arith}
@@ -33,39 +33,36 @@ module _ (c : tie.Start) where
   abbrev enabled : List ℕ
   enabled = enabledBytes (c .args .m .enabled)
 
-  -- the rest is left to write at i of a
-  abbrev LeftOf : List ℕ → ℕ → List ℕ → Type 0
-  LeftOf rest i a = Left (image (memoryOf (c .args .m))) 0 (c .args .out .now) rest i a
+  -- the rest of the image is left to write at i of a
+  abbrev ImageLeft : List ℕ → ℕ → List ℕ → Type 0
+  ImageLeft rest i a = Left (image (memoryOf (c .args .m))) 0 (c .args .out .now) rest i a
 
   long : length (c .args .m .systems) ≡ maxSystems
   long = search (length-mapped, needs)
 
-  all-left : LeftOf (head ++ (systems ++ (enabled ++ []))) 0 (c .args .out .now)
-  all-left = rw (image-parts (c .args .m) long (c .pre .0)) (left-all _ 0 (c .args .out .now))
+  all-left : ImageLeft (head ++ (systems ++ (enabled ++ []))) 0 (c .args .out .now)
+  all-left = left-all (image-parts (c .args .m) long (c .pre .0)) (omega (arith, c .pre .2, fits (memoryOf (c .args .m)) (c .pre .1) .0))
 
-  room : (x rest : List ℕ) (i : ℕ) (a : List ℕ) → LeftOf (x ++ rest) i a → i + length x ≤ length a
-  room x rest i a l = left-fits x rest l (omega (arith, c .pre .2, fits (memoryOf (c .args .m)) (c .pre .1) .0))
-
-left-listed : (c : tie.After-write-numbers) → (let s = begun c in LeftOf s (systems s ++ (enabled s ++ [])) (c .write-numbers .result) (c .write-numbers .last .0))
+left-listed : (c : tie.After-write-numbers) → (let s = begun c in ImageLeft s (systems s ++ (enabled s ++ [])) (c .write-numbers .result) (c .write-numbers .last .0))
 left-listed c = left-wrote (all-left (begun c)) (c .write-numbers .ensures)
 
-left-enabled : (c : tie.After-write-systems) → (let s = begun (headed c) in LeftOf s (enabled s ++ []) (c .write-systems .result) (c .write-systems .last .0))
+left-enabled : (c : tie.After-write-systems) → (let s = begun (headed c) in ImageLeft s (enabled s ++ []) (c .write-systems .result) (c .write-systems .last .0))
 left-enabled c = left-wrote (left-listed (headed c)) (c .write-systems .ensures)
 
 write-numbers-requires : tie.Need-write-numbers-requires
-write-numbers-requires c κs = let s = c .before .before .before in (omega arith, room s (head s) (systems s ++ (enabled s ++ [])) _ _ (all-left s))
+write-numbers-requires c κs = let s = c .before .before .before in (omega arith, left-fits (head s) (systems s ++ (enabled s ++ [])) (all-left s))
 
 write-systems-requires : tie.Need-write-systems-requires
 write-systems-requires c κs =
     let w = c .before .before .before in
     let s = begun w in
-    ((s .pre .0, s .pre .1), room s (systems s) (enabled s ++ []) _ _ (left-listed w))
+    ((s .pre .0, s .pre .1), left-fits (systems s) (enabled s ++ []) (left-listed w))
 
 write-enabled-requires : tie.Need-write-enabled-requires
 write-enabled-requires c κs =
     let w = c .before .before .before .before in
     let s = begun (headed w) in
-    room s (enabled s) [] _ _ (left-enabled w)
+    left-fits (enabled s) [] (left-enabled w)
 
 returns : tie.Need-returns
 returns c = let x = c .before .before in left-done (left-wrote (left-enabled (x .before .before .before .before .before)) (x .write-enabled .ensures))

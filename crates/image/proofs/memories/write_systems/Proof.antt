@@ -1,5 +1,5 @@
 use Prim.Native.Nat.{_+_, _-_, _≤_}
-use mathlib.Core.Path.{_≡_}
+use mathlib.Core.Path.{_≡_, refl}
 use mathlib.Core.List.{_++_, map}
 use native.Mathlib.Omega.{arith}
 use borrow.Author.Needs.{needs}
@@ -9,7 +9,7 @@ use Rattle.model.specs.Lists.{joined}
 use Rattle.model.specs.Image.{systemBytes}
 use Rattle.model.specs.Stored.{systemOf, systemsOf}
 use Rattle.chains.proofs.Copies.{length-mapped, unset}
-use Rattle.memory.proofs.Shape.{shaped-count, shaped-at}
+use Rattle.model.proofs.Shape.{shaped-count, shaped-at}
 use Rattle.image.proofs.MemoryLeft.{systems-turn, systems-end, offsets-small}
 use Rattle.image.proofs.Left.{Left, left-all, left-wrote, left-fits, left-done}
 use Rattle.image.proofs.memories.write_systems.Statement.{statement}
@@ -39,7 +39,7 @@ next-left c =
     rw (systems-turn (s .args .t3) (long s) (s .pre .0 .0) (l .loop .i) unset (c .loop-test .taken)) at (l .loop .inv .1)
 
 loop-holds : tie.Need-loop-holds Inv-loop μ-loop
-loop-holds c = (omega arith, left-all _ _ _)
+loop-holds c = (omega arith, left-all refl (c .before .pre .1))
 
 element-copy-out-s : tie.Need-element-copy-out-s Inv-loop μ-loop
 element-copy-out-s c =
@@ -56,7 +56,7 @@ write-system-requires c κs =
     let h = t .loop-test .taken in (
       (
         shaped-at m (s .pre .0 .0) _ i h (omega (arith, long s, shaped-count m (s .pre .0 .0))),
-        left-fits (systemBytes (systemOf (getD (m .systems) i unset))) (joined (map systemBytes (drop (i + 1) (systemsOf m)))) (next-left t) (s .pre .1),
+        left-fits (systemBytes (systemOf (getD (m .systems) i unset))) (joined (map systemBytes (drop (i + 1) (systemsOf m)))) (next-left t),
       ),
       offsets-small m (long s) (s .pre .0 .0) (s .pre .0 .1) i _ h,
     )

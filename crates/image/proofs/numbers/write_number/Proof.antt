@@ -1,4 +1,5 @@
 use Prim.Native.Nat.{_+_, _/_, _%_, _≤_}
+use mathlib.Core.Path.{refl}
 use mathlib.Core.List.{[], _∷_}
 use native.Mathlib.Nat.{mod-lt}
 use native.Mathlib.Omega.{arith}
@@ -32,7 +33,7 @@ last-left : (c : tie.After-loop Inv-loop μ-loop) → (
 last-left c = rw (whole-last (c .before .loop .left) (c .loop-test .left)) at (c .before .loop .inv .1)
 
 loop-holds : tie.Need-loop-holds Inv-loop μ-loop
-loop-holds c = (omega arith, left-all _ _ _)
+loop-holds c = (omega arith, left-all refl (c .pre))
 
 add-out : tie.Need-add-out Inv-loop μ-loop
 add-out c = record { fits = omega (arith, mod-lt (c .before .loop .left) {m = 128} (omega arith)) }
@@ -41,10 +42,10 @@ cast-out : tie.Need-cast-out Inv-loop μ-loop
 cast-out c = record { fits = omega (arith, mod-lt (c .before .loop .left) {m = 128} (omega arith)) }
 
 slice-write-out : tie.Need-slice-write-out Inv-loop μ-loop
-slice-write-out c = omega (arith, next-left c .long, next-left c .place, c .before .before .pre)
+slice-write-out c = omega (arith, next-left c .room)
 
 add-i : tie.Need-add-i Inv-loop μ-loop
-add-i c = omega (arith, next-left c .long, next-left c .place, c .before .before .pre)
+add-i c = omega (arith, next-left c .room)
 
 loop-less : tie.Need-loop-less Inv-loop μ-loop
 loop-less c = less (c .before .loop .left) (c .loop-test .taken)
@@ -58,10 +59,10 @@ cast-out-2 : tie.Need-cast-out-2 Inv-loop μ-loop
 cast-out-2 c = record { fits = omega (arith, c .loop-test .left) }
 
 slice-write-out-2 : tie.Need-slice-write-out-2 Inv-loop μ-loop
-slice-write-out-2 c = omega (arith, last-left c .long, last-left c .place, c .before .before .pre)
+slice-write-out-2 c = omega (arith, last-left c .room)
 
 add-result : tie.Need-add-result Inv-loop μ-loop
-add-result c = omega (arith, last-left c .long, last-left c .place, c .before .before .pre)
+add-result c = omega (arith, last-left c .room)
 
 same-length : tie.Need-same-length Inv-loop μ-loop
 same-length c = left-byte (last-left c) .long

@@ -1,5 +1,5 @@
 use Prim.Native.Nat.{_+_, _-_, _≤_}
-use mathlib.Core.Path.{_≡_}
+use mathlib.Core.Path.{_≡_, refl}
 use mathlib.Core.List.{_++_}
 use native.Mathlib.Omega.{arith}
 use borrow.Author.Needs.{needs}
@@ -32,7 +32,7 @@ next-left c =
     rw (numbers-turn (s .args .t3) (s .args .count) (l .loop .i) (omega (arith, long s, s .pre .0)) (c .loop-test .taken)) at (l .loop .inv .1)
 
 loop-holds : tie.Need-loop-holds Inv-loop μ-loop
-loop-holds c = (omega arith, left-all _ _ _)
+loop-holds c = (omega arith, left-all refl (c .before .pre .1))
 
 array-read-write-number : tie.Need-array-read-write-number Inv-loop μ-loop
 array-read-write-number c = omega (arith, c .before .loop-test .taken, c .before .before .before .before .pre .0)
@@ -41,7 +41,7 @@ write-number-requires : tie.Need-write-number-requires Inv-loop μ-loop
 write-number-requires c κs =
     let l = c .before .before in
     let s = l .before .before in
-    left-fits (whole (getD (s .args .t3) (l .loop .i) 0)) (numbers (drop (l .loop .i + 1) (take (s .args .count) (s .args .t3)))) (next-left (c .before)) (s .pre .1)
+    left-fits (whole (getD (s .args .t3) (l .loop .i) 0)) (numbers (drop (l .loop .i + 1) (take (s .args .count) (s .args .t3)))) (next-left (c .before))
 
 loop-again : tie.Need-loop-again Inv-loop μ-loop
 loop-again c =

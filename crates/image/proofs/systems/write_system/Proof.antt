@@ -1,4 +1,4 @@
-use Prim.Native.Nat.{ℕ, _+_, _≤_}
+use Prim.Native.Nat.{ℕ, _≤_}
 use mathlib.Core.Path.{_≡_}
 use mathlib.Core.List.{List, [], _++_}
 use native.Mathlib.Omega.{arith}
@@ -40,9 +40,9 @@ module _ (c : tie.After-turned-of) where
   abbrev turned : List ℕ
   turned = numbers (take 4 (c .turned-of .result))
 
-  -- the rest is left to write at i of a
-  abbrev LeftOf : List ℕ → ℕ → List ℕ → Type 0
-  LeftOf rest i a = Left (systemBytes (systemOf (start .args .s))) (start .args .at) (start .args .out .now) rest i a
+  -- the rest of the system is left to write at i of a
+  abbrev SystemLeft : List ℕ → ℕ → List ℕ → Type 0
+  SystemLeft rest i a = Left (systemBytes (systemOf (start .args .s))) (start .args .at) (start .args .out .now) rest i a
 
   long : length (start .args .s .name .bytes) ≡ nameLimit
   long = search needs
@@ -50,45 +50,42 @@ module _ (c : tie.After-turned-of) where
   short : start .args .s .name .len ≤ nameLimit
   short = leb-true (start .args .s .name .len) nameLimit (start .pre .0 .0)
 
-  all-left : LeftOf (head ++ (name ++ (offsets ++ (turned ++ [])))) (start .args .at) (start .args .out .now)
+  all-left : SystemLeft (head ++ (name ++ (offsets ++ (turned ++ [])))) (start .args .at) (start .args .out .now)
   all-left =
       let h = c .before .before .head-of in
       let o = c .before .offsets-of in
       let t = c .turned-of in
-      rw (system-parts (start .args .s) (h .result) (o .result) (t .result) long short (h .ensures) (o .ensures) (t .ensures)) (left-all _ (start .args .at) (start .args .out .now))
+      left-all (system-parts (start .args .s) (h .result) (o .result) (t .result) long short (h .ensures) (o .ensures) (t .ensures)) (start .pre .0 .1)
 
-  room : (x rest : List ℕ) (i : ℕ) (a : List ℕ) → LeftOf (x ++ rest) i a → i + length x ≤ length a
-  room x rest i a l = left-fits x rest l (start .pre .0 .1)
-
-left-named : (c : tie.After-write-numbers) → (let t = ready c in LeftOf t (name t ++ (offsets t ++ (turned t ++ []))) (c .write-numbers .result) (c .write-numbers .last .0))
+left-named : (c : tie.After-write-numbers) → (let t = ready c in SystemLeft t (name t ++ (offsets t ++ (turned t ++ []))) (c .write-numbers .result) (c .write-numbers .last .0))
 left-named c = left-wrote (all-left (ready c)) (c .write-numbers .ensures)
 
-left-placed : (c : tie.After-put-name) → (let t = ready (headed c) in LeftOf t (offsets t ++ (turned t ++ [])) (c .put-name .result) (c .put-name .last .0))
+left-placed : (c : tie.After-put-name) → (let t = ready (headed c) in SystemLeft t (offsets t ++ (turned t ++ [])) (c .put-name .result) (c .put-name .last .0))
 left-placed c = left-wrote (left-named (headed c)) (c .put-name .ensures)
 
-left-turned : (c : tie.After-write-numbers2) → (let t = ready (headed (named c)) in LeftOf t (turned t ++ []) (c .write-numbers2 .result) (c .write-numbers2 .last .0))
+left-turned : (c : tie.After-write-numbers2) → (let t = ready (headed (named c)) in SystemLeft t (turned t ++ []) (c .write-numbers2 .result) (c .write-numbers2 .last .0))
 left-turned c = left-wrote (left-placed (named c)) (c .write-numbers2 .ensures)
 
 write-numbers-requires : tie.Need-write-numbers-requires
-write-numbers-requires c κs = let t = c .before in (omega arith, room t (head t) (name t ++ (offsets t ++ (turned t ++ []))) _ _ (all-left t))
+write-numbers-requires c κs = let t = c .before in (omega arith, left-fits (head t) (name t ++ (offsets t ++ (turned t ++ []))) (all-left t))
 
 put-name-requires : tie.Need-put-name-requires
 put-name-requires c κs =
     let w = c .before .before .before in
     let t = ready w in
-    (short t, room t (name t) (offsets t ++ (turned t ++ [])) _ _ (left-named w))
+    (short t, left-fits (name t) (offsets t ++ (turned t ++ [])) (left-named w))
 
 write-numbers-requires-2 : tie.Need-write-numbers-requires-2
 write-numbers-requires-2 c κs =
     let w = c .before .before .before in
     let t = ready (headed w) in
-    (omega arith, room t (offsets t) (turned t ++ []) _ _ (left-placed w))
+    (omega arith, left-fits (offsets t) (turned t ++ []) (left-placed w))
 
 write-numbers-requires-3 : tie.Need-write-numbers-requires-3
 write-numbers-requires-3 c κs =
     let w = c .before .before .before in
     let t = ready (headed (named w)) in
-    (omega arith, room t (turned t) [] _ _ (left-turned w))
+    (omega arith, left-fits (turned t) [] (left-turned w))
 
 returns : tie.Need-returns
 returns c = let w = c .before .before in left-done (left-wrote (left-turned (w .before .before .before .before)) (w .write-numbers3 .ensures))

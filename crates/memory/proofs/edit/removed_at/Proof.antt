@@ -18,7 +18,8 @@ use Rattle.model.proofs.Basics.{and-join}
 use Rattle.model.proofs.Edits.Removal.{without}
 use Rattle.chains.proofs.Copies.{length-mapped, unset}
 use Rattle.memory.proofs.Laws.{length-systems}
-use Rattle.memory.proofs.Shape.{all-more, shaped-at, shaped-count}
+use Rattle.model.proofs.Shape.{shaped-at, shaped-count}
+use Rattle.memory.proofs.Shape.{all-more}
 use Rattle.memory.proofs.Edits.{kept-within, length-without, gone-at, without-at, stored-turn, still-turn}
 use Rattle.memory.proofs.edit.removed_at.Statement.{statement}
 use Rattle.memory.proofs.edit.removed_at.Tie as tie

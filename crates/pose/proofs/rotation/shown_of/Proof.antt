@@ -1,24 +1,20 @@
--- `pose::rotation::shown_of` meets its contract: one computed test proves the table's 216 entries right.
-use mathlib.Core.Path.{_≡_, ap, _∙_}
-use mathlib.Core.Bool.{Bool, _&&_}
-use mathlib.Core.List.{List, [], _∷_}
-use Prim.Native.Nat.{ℕ, _+_, _*_, _<_}
+-- `pose::rotation::shown_of` meets its contract: one computed test shows what the first two axes say to be right of every three.
+use mathlib.Core.Path.{_≡_, sym, ap, _∙_}
+use mathlib.Core.Bool.{Bool, cond, _&&_}
+use Prim.Native.Nat.{ℕ, _+_, _*_, _/_, _%_, _<_}
 use native.Mathlib.Omega.{arith}
-use lib.ListN.{getD}
 use lib.Dec.{T, eqb, eqb→eq}
 use mir.Facts.{and-yes}
 use borrow.Author.Needs.{needs}
+use borrow.Author.Tests.{eq-eqb, ne-eqb}
 use Rattle.model.specs.Lists.{least}
-use Rattle.model.specs.Pose.{times, rotOf, sameRot, triple, shown}
-use Rattle.pose.specs.Types.{Turns}
-use Rattle.pose.specs.Numbers.{rotNumber, rotAt}
+use Rattle.model.specs.Pose.{axisNumber, times, rotOf, sameRot, triple, shown}
 use Rattle.model.proofs.Upto.{at}
-use Rattle.pose.proofs.Naming.{rotAt-number}
+use Rattle.pose.specs.Types.{Rot, Turns}
+use Rattle.pose.specs.Numbers.{rotNumber, rotAt, firstAxes, firstPlace, firstNamed}
+use Rattle.pose.proofs.Naming.{rotAt-number, axisNumber-below}
 use Rattle.pose.proofs.rotation.shown_of.Statement.{statement}
 use Rattle.pose.proofs.rotation.shown_of.Tie as tie
-
-table : List ℕ
-table = 63 ∷ 63 ∷ 63 ∷ 63 ∷ 63 ∷ 63 ∷ 63 ∷ 63 ∷ 63 ∷ 63 ∷ 63 ∷ 63 ∷ 63 ∷ 63 ∷ 63 ∷ 63 ∷ 0 ∷ 63 ∷ 63 ∷ 63 ∷ 63 ∷ 63 ∷ 63 ∷ 10 ∷ 63 ∷ 63 ∷ 63 ∷ 26 ∷ 63 ∷ 63 ∷ 63 ∷ 63 ∷ 16 ∷ 63 ∷ 63 ∷ 63 ∷ 63 ∷ 63 ∷ 63 ∷ 63 ∷ 63 ∷ 63 ∷ 63 ∷ 63 ∷ 63 ∷ 63 ∷ 63 ∷ 63 ∷ 63 ∷ 63 ∷ 63 ∷ 63 ∷ 63 ∷ 8 ∷ 63 ∷ 63 ∷ 63 ∷ 63 ∷ 2 ∷ 63 ∷ 63 ∷ 63 ∷ 24 ∷ 63 ∷ 63 ∷ 63 ∷ 63 ∷ 63 ∷ 63 ∷ 18 ∷ 63 ∷ 63 ∷ 63 ∷ 63 ∷ 63 ∷ 63 ∷ 63 ∷ 9 ∷ 63 ∷ 63 ∷ 63 ∷ 63 ∷ 3 ∷ 63 ∷ 63 ∷ 63 ∷ 63 ∷ 63 ∷ 63 ∷ 63 ∷ 63 ∷ 63 ∷ 63 ∷ 63 ∷ 63 ∷ 63 ∷ 25 ∷ 63 ∷ 63 ∷ 63 ∷ 63 ∷ 63 ∷ 63 ∷ 19 ∷ 63 ∷ 63 ∷ 63 ∷ 63 ∷ 63 ∷ 63 ∷ 63 ∷ 63 ∷ 1 ∷ 63 ∷ 63 ∷ 63 ∷ 63 ∷ 63 ∷ 63 ∷ 11 ∷ 63 ∷ 63 ∷ 63 ∷ 63 ∷ 63 ∷ 63 ∷ 63 ∷ 63 ∷ 63 ∷ 63 ∷ 63 ∷ 63 ∷ 63 ∷ 27 ∷ 63 ∷ 63 ∷ 63 ∷ 63 ∷ 17 ∷ 63 ∷ 63 ∷ 63 ∷ 63 ∷ 63 ∷ 63 ∷ 63 ∷ 5 ∷ 63 ∷ 63 ∷ 63 ∷ 63 ∷ 63 ∷ 63 ∷ 7 ∷ 63 ∷ 63 ∷ 63 ∷ 4 ∷ 63 ∷ 63 ∷ 63 ∷ 63 ∷ 6 ∷ 63 ∷ 63 ∷ 63 ∷ 63 ∷ 63 ∷ 63 ∷ 63 ∷ 63 ∷ 63 ∷ 63 ∷ 63 ∷ 63 ∷ 63 ∷ 63 ∷ 63 ∷ 63 ∷ 63 ∷ 63 ∷ 63 ∷ 63 ∷ 13 ∷ 63 ∷ 63 ∷ 63 ∷ 63 ∷ 15 ∷ 63 ∷ 63 ∷ 63 ∷ 12 ∷ 63 ∷ 63 ∷ 63 ∷ 63 ∷ 63 ∷ 63 ∷ 14 ∷ 63 ∷ 63 ∷ 63 ∷ 63 ∷ 63 ∷ 63 ∷ 63 ∷ 63 ∷ 63 ∷ 63 ∷ 63 ∷ 63 ∷ 63 ∷ 63 ∷ 63 ∷ 63 ∷ []
 
 sameTurns : Turns → Turns → Bool
 sameTurns s t = eqb (s .u) (t .u) && (eqb (s .v) (t .v) && eqb (s .w) (t .w))
@@ -30,21 +26,49 @@ same-turns s t h =
     let h2 = and-yes (eqb (s .v) (t .v)) (eqb (s .w) (t .w)) (h1 .1) in
     λ i. record { u = eqb→eq (s .u) (t .u) (h1 .0) i; v = eqb→eq (s .v) (t .v) (h2 .0) i; w = eqb→eq (s .w) (t .w) (h2 .1) i }
 
-right : ℕ → Bool
-unfolding table sameTurns
-right k = sameTurns (triple (getD table k 0)) (shown (rotAt k))
+-- the triple by the first two axes, where the third is theirs
+abbrev byAxes : ℕ → ℕ → Turns
+byAxes axes third = cond (eqb (firstNamed axes / 64) third) (triple (firstNamed axes % 64)) (triple 63)
 
-entry : (k : ℕ) → k < 216 → triple (getD table k 0) ≡ shown (rotAt k)
-unfolding table right sameTurns shown least times rotOf sameRot
-entry k h = same-turns _ _ (at 216 right tt k h)
+right : ℕ → Bool
+right n = sameTurns (byAxes (n / 6) (n % 6)) (shown (rotAt n))
+
+entry : (n : ℕ) → n < 216 → byAxes (n / 6) (n % 6) ≡ shown (rotAt n)
+unfolding right sameTurns shown firstNamed firstPlace least times rotOf sameRot
+entry n h = same-turns _ _ (at 216 right tt n h)
+
+by-axes : (r : Rot) → byAxes (firstAxes r) (axisNumber (r .c)) ≡ shown r
+by-axes r =
+    let n = rotNumber r in
+    let a = axisNumber-below (r .a) in
+    let b = axisNumber-below (r .b) in
+    let c = axisNumber-below (r .c) in
+    let i : firstAxes r ≡ n / 6 = omega arith in
+    let j : axisNumber (r .c) ≡ n % 6 = omega arith in
+    (λ k. byAxes (i k) (j k)) ∙ entry n (omega arith) ∙ ap shown (rotAt-number r)
+
+-- what was read of the first two axes
+first-is : (c : tie.After-first-named) → c .first-named .result ≡ firstNamed (firstAxes (c .before .before .before .before .args .r))
+first-is c =
+    let i = c .before .before .before .number .ensures .0 in
+    let j = c .before .before .number2 .ensures .0 in
+    c .first-named .ensures ∙ (λ k. firstNamed (i k * 6 + j k))
 
 returns : tie.Need-returns
-unfolding table
 returns c =
-    let r = c .before .before .before .args .r in
-    let k = c .before .before .number .result * 36 + c .before .number2 .result * 6 + c .number3 .result in
-    let e : k ≡ rotNumber r = omega arith in
-    entry k (omega arith) ∙ ap (λ (j : ℕ). shown (rotAt j)) e ∙ ap shown (rotAt-number r)
+    let p = c .before in
+    let r = p .before .before .before .before .args .r in
+    let k = p .before .number3 .ensures .0 in
+    let d : (firstNamed (firstAxes r) / 64 ≡ axisNumber (r .c) → ⊥) = λ e. c .if1 .taken (ap (λ (n : ℕ). n / 64) (first-is p) ∙ e ∙ sym k) in
+    rw (ne-eqb _ _ d) at (by-axes r)
+
+returns-2 : tie.Need-returns-2
+returns-2 c =
+    let p = c .before in
+    let r = p .before .before .before .before .args .r in
+    let k = p .before .number3 .ensures .0 in
+    let e : firstNamed (firstAxes r) / 64 ≡ axisNumber (r .c) = ap (λ (n : ℕ). n / 64) (sym (first-is p)) ∙ c .if1 .left ∙ k in
+    ap (λ (n : ℕ). triple (n % 64)) (first-is p) ∙ (rw (eq-eqb _ _ e) at (by-axes r))
 
 pub shown-of-spec : {M : Type 1} → statement M
 shown-of-spec =
@@ -55,7 +79,8 @@ shown-of-spec =
     (λ c κs. search needs)
     (λ c. search needs)
     (λ c. search needs)
+    (λ c κs. search needs)
     (λ c. search needs)
     (λ c. search needs)
-    (λ c. search needs)
-    returns)
+    returns
+    returns-2)

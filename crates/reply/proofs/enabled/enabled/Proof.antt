@@ -9,13 +9,14 @@ use Rattle.model.specs.Request.{enabledOnes}
 use Rattle.model.specs.Reply.{listed}
 use Rattle.chains.proofs.Copies.{length-mapped, unset}
 use Rattle.print.proofs.Laws.{wrote-then}
+use Rattle.model.proofs.Shape.{shaped-count}
 use Rattle.reply.specs.Types.{Operating, StoredSystem}
 use Rattle.reply.specs.Lines.{enabledText}
 use Rattle.reply.specs.EnabledText.{toolText, groupsText}
 use Rattle.reply.proofs.EnabledLaws.{first-within, tool-within, orientational-within, levelling-within, enabled-whole}
 use Rattle.reply.proofs.ListLaws.{replied}
 use Rattle.reply.proofs.ShortLaws.{listed-short}
-use Rattle.reply.proofs.StoredLaws.{few, name-fits}
+use Rattle.reply.proofs.StoredLaws.{name-fits}
 use borrow.Author.Needs.{needs}
 use Rattle.reply.proofs.enabled.enabled.Statement.{statement}
 use Rattle.reply.proofs.enabled.enabled.Tie as tie
@@ -40,7 +41,7 @@ groups c = groupsText (c .before .before .before .before .before .before .before
 whole : (c : tie.After-l) → listed (memoryOf (c .before .before .before .before .before .before .before .before .before .before .before .before .args .t1)) enabledOnes ≡ first c ++ (tool c ++ groups c)
 whole c =
     let s = c .before .before .before .before .before .before .before .before .before .before .before .before in
-    rw (c .before .before .before .before .before .before .before .before .slot .ensures, c .before .before .before .before .before .before .slot2 .ensures, c .before .before .before .before .before .slot3 .ensures, c .before .before .before .before .slot4 .ensures, c .before .before .before .before .before .before .before .before .before .first-place .ensures, c .before .before .before .before .before .before .before .tool-place .ensures)
+    rw (c .before .before .before .before .before .before .before .before .slot .ensures, c .before .before .before .before .before .before .slot2 .ensures, c .before .before .before .before .before .slot3 .ensures, c .before .before .before .before .slot4 .ensures, c .before .before .before .before .before .before .before .before .before .first-place .ensures, c .before .before .before .before .before .before .before .tool-half .ensures)
     (enabled-whole (s .args .t1) (s .pre .0) (long s))
 
 fits : (c : tie.After-l) → length (first c) + (length (tool c) + length (groups c)) ≤ length (c .before .before .before .before .before .before .before .before .before .before .before .before .args .reply .now)
@@ -57,22 +58,22 @@ named c p i h e n = let s = c .before .before .before .before .before .before .b
 element-copy-out-a : tie.Need-element-copy-out-a
 element-copy-out-a c =
     let s = c .before .before .before .before .before .before .before .before in
-    omega (arith, first-within (s .args .t1) (s .pre .0) (long s), few (s .args .t1) (s .pre .0 .shape) (long s), c .before .before .before .before .slot .ensures, c .before .before .before .before .before .first-place .ensures)
+    omega (arith, first-within (s .args .t1) (s .pre .0) (long s), shaped-count (s .args .t1) (s .pre .0 .shape), c .before .before .before .before .slot .ensures, c .before .before .before .before .before .first-place .ensures)
 
 element-copy-out-b : tie.Need-element-copy-out-b
 element-copy-out-b c =
     let s = c .before .before .before .before .before .before .before .before .before in
-    omega (arith, tool-within (s .args .t1) (s .pre .0) (long s), few (s .args .t1) (s .pre .0 .shape) (long s), c .before .before .before .slot2 .ensures, c .before .before .before .before .tool-place .ensures)
+    omega (arith, tool-within (s .args .t1) (s .pre .0) (long s), shaped-count (s .args .t1) (s .pre .0 .shape), c .before .before .before .slot2 .ensures, c .before .before .before .before .tool-half .ensures)
 
 element-copy-out-o : tie.Need-element-copy-out-o
 element-copy-out-o c =
     let s = c .before .before .before .before .before .before .before .before .before .before in
-    omega (arith, orientational-within (s .args .t1) (s .pre .0) (long s), few (s .args .t1) (s .pre .0 .shape) (long s), c .before .before .before .slot3 .ensures)
+    omega (arith, orientational-within (s .args .t1) (s .pre .0) (long s), shaped-count (s .args .t1) (s .pre .0 .shape), c .before .before .before .slot3 .ensures)
 
 element-copy-out-l : tie.Need-element-copy-out-l
 element-copy-out-l c =
     let s = c .before .before .before .before .before .before .before .before .before .before .before in
-    omega (arith, levelling-within (s .args .t1) (s .pre .0) (long s), few (s .args .t1) (s .pre .0 .shape) (long s), c .before .before .before .slot4 .ensures)
+    omega (arith, levelling-within (s .args .t1) (s .pre .0) (long s), shaped-count (s .args .t1) (s .pre .0 .shape), c .before .before .before .slot4 .ensures)
 
 put-enabled-requires : tie.Need-put-enabled-requires
 put-enabled-requires c κs =
@@ -88,7 +89,7 @@ put-tool-requires c κs =
     let w = c .before .before .before in
     let k = w .before .before in
     let s = k .before .before .before .before .before .before .before .before .before .before .before .before in (
-      named k _ (k .before .before .before .before .before .before .slot2 .result) (tool-within (s .args .t1) (s .pre .0) (long s)) (k .before .before .before .before .before .before .slot2 .ensures ∙ rw (k .before .before .before .before .before .before .before .tool-place .ensures)),
+      named k _ (k .before .before .before .before .before .before .slot2 .result) (tool-within (s .args .t1) (s .pre .0) (long s)) (k .before .before .before .before .before .before .slot2 .ensures ∙ rw (k .before .before .before .before .before .before .before .tool-half .ensures)),
       omega (arith, fits k, w .put-enabled .ensures .place, w .put-enabled .kept .0),
     )
 

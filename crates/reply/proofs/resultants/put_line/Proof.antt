@@ -8,7 +8,6 @@ use Rattle.model.specs.Stored.{bytesOf}
 use Rattle.chains.specs.Walk.{walkOf}
 use Rattle.reply.specs.Reached.{reachedText}
 use Rattle.reply.specs.Lines.{atFixed}
-use Rattle.reply.specs.Values.{byGroup}
 use Rattle.reply.proofs.FixedLaws.{fixed-resultant}
 use Rattle.reply.proofs.LineLaws.{at-fixed, at-user}
 use borrow.Author.Needs.{needs}

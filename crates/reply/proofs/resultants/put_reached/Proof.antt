@@ -5,8 +5,8 @@ use Rattle.reply.proofs.resultants.put_reached.Tie as tie
 
 put-resultant-requires : tie.Need-put-resultant-requires
 put-resultant-requires c κs =
-    let s = c .before .before .before .before .before in
-    rw (c .before .shown-of .ensures) (s .pre .0 .name-fits, s .pre .0 .near, shown-quarters (s .args .r .pose .rot), s .pre .1)
+    let s = c .before .before .before .before in
+    rw (c .before .shown-of .ensures) (s .pre .0 .name-fits, s .pre .0 .near, shown-quarters (s .args .r .rot), s .pre .1)
 
 returns : tie.Need-returns
 returns c = let k = c .before .before in rw (k .before .before .shown-of .ensures) at (k .put-resultant .ensures)

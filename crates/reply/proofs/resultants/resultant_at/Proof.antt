@@ -12,6 +12,7 @@ use Rattle.chains.proofs.Copies.{length-mapped, unset}
 use Rattle.chains.proofs.Reaching.{walked-fixed}
 use Rattle.chains.proofs.Ready.{walkable}
 use Rattle.print.proofs.Laws.{wrote-then}
+use Rattle.model.proofs.Shape.{shaped-count, systemsOf-count}
 use Rattle.reply.specs.Lines.{atFixed}
 use Rattle.reply.specs.Reached.{reachedText, refAt}
 use Rattle.reply.proofs.KeptLaws.{held, taken}
@@ -19,7 +20,7 @@ use Rattle.reply.proofs.LineLaws.{at-user}
 use Rattle.reply.proofs.ListLaws.{replied}
 use Rattle.reply.proofs.ReachLaws.{ref-place, ref-fixed, ref-user, FlatOf, flat-of, can-walk, deep-enough, reached-within, reached-line}
 use Rattle.reply.proofs.ShortLaws.{resultant-short}
-use Rattle.reply.proofs.StoredLaws.{few, count-is, name-fits}
+use Rattle.reply.proofs.StoredLaws.{name-fits}
 use borrow.Author.Needs.{needs}
 use Rattle.reply.proofs.resultants.resultant_at.Statement.{statement}
 use Rattle.reply.proofs.resultants.resultant_at.Tie as tie
@@ -36,7 +37,7 @@ fits s =
     let m = s .args .t1 in
     let l = systemsOf m in
     let r = refAt l (s .args .g) (s .args .place) in
-    let within : r .place ≤ length l = rw (ref-place l (s .args .g) (s .args .place), count-is m (s .pre .0 .shape) (long s)) (s .pre .1 .1) in
+    let within : r .place ≤ length l = rw (ref-place l (s .args .g) (s .args .place), systemsOf-count m (s .pre .0 .shape) (long s)) (s .pre .1 .1) in
     omega (arith, s .pre .1 .0, resultant-short l (fine-of (memoryOf m) (s .pre .0 .formed) .systems) (walkable (memoryOf m) (s .pre .0 .formed)) r within)
 
 -- ---- a fixed system
@@ -69,7 +70,7 @@ slot-is : (c : tie.After-slot) → (c .before .before .before .before .before .b
 slot-is c =
     let s = c .before .before .before .before .before .before .before .before in
     let n = c .before .before .before .before .before .before .if1 .left in
-    let f = few (s .args .t1) (s .pre .0 .shape) (long s) in
+    let f = shaped-count (s .args .t1) (s .pre .0 .shape) in
     (omega (arith, n, c .slot .ensures), omega (arith, n, c .slot .ensures, s .pre .1 .1), omega (arith, n, c .slot .ensures, s .pre .1 .1, f))
 
 -- ---- seen from the walk

@@ -1,7 +1,7 @@
 use Prim.Native.Nat.{ℕ, suc, _+_, _-_, _≤_, _<_}
 use mathlib.Core.Path.{_≡_, refl, sym, _∙_}
 use mathlib.Core.List.{List}
-use mathlib.Core.Bool.{Bool, true, false, _&&_}
+use mathlib.Core.Bool.{Bool, _&&_}
 use native.Mathlib.Numerals.{add-one}
 use native.Mathlib.Omega.{arith}
 use borrow.Author.Tests.{lt-ltb, le-ltb}
@@ -10,7 +10,7 @@ use lib.Seq.{drop-cons}
 use Rattle.model.specs.Limits.{lineLimit}
 use Rattle.model.specs.Lists.{all, between}
 use Rattle.model.specs.Refusals.{unreadable}
-use Rattle.model.proofs.Basics.{and-assoc}
+use Rattle.model.proofs.Basics.{and-assoc, and-true}
 use Rattle.request.proofs.printable.unreadable.Statement.{statement}
 use Rattle.request.proofs.printable.unreadable.Tie as tie
 
@@ -22,11 +22,7 @@ module _ (p : ℕ → Bool) (l : List ℕ) (i : ℕ) (f : Bool) where
 
   end : length l ≤ i → (f && all p (drop i l)) ≡ f
   unfolding all
-  end h = rw (drop-of-length-le l h) (last f)
-    where
-      last : (a : Bool) → a && true ≡ a
-      last true = refl
-      last false = refl
+  end h = rw (drop-of-length-le l h) (and-true f)
 
 -- the bytes that a line may have
 abbrev fine : ℕ → Bool

@@ -1,13 +1,13 @@
 -- `keep`: the held bytes are those held at first and the part's first ones, until there are enough or no more.
-use Prim.Native.Nat.{ℕ, _+_, _-_, _≤_}
-use mathlib.Core.Path.{_≡_, refl, sym, ap, _∙_}
+use Prim.Native.Nat.{_+_, _-_, _≤_}
+use mathlib.Core.Path.{_≡_, refl, sym, _∙_}
 use mathlib.Core.List.{_++_, append-nil}
 use native.Mathlib.Omega.{arith}
 use native.Mathlib.Numerals.{add-one}
 use borrow.Author.Needs.{needs}
 use lib.ListN.{length, take, length-set}
 use lib.Seq.{length-take-le}
-use Rattle.session.specs.Feed.{enough, Keeps}
+use Rattle.session.specs.Feed.{enough}
 use Rattle.session.proofs.Cutting.{held-more, held-enough, held-all}
 use Rattle.session.proofs.cut.keep.Statement.{statement}
 use Rattle.session.proofs.cut.keep.Tie as tie

@@ -1,5 +1,5 @@
 -- `begin`: the factory state, and nothing held.
-use mathlib.Core.Path.{_≡_, refl}
+use mathlib.Core.Path.{refl}
 use native.Mathlib.Omega.{arith}
 use Rattle.model.specs.Machine.{startFactory}
 use Rattle.model.proofs.Histories.Kept.{well-formed-kept}

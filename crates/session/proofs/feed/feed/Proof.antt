@@ -1,4 +1,5 @@
 -- `feed`: the held line first, then whole lines.
+use Prim.Native.Nat.{_≤_, _<_}
 use mathlib.Core.Path.{_≡_, sym}
 use native.Mathlib.Omega.{arith}
 use lib.ListN.{length}
@@ -17,32 +18,45 @@ slice-aggregate-keep c =
     let start = c .before .before .before .before .before .before .before .before in
     sym (length-take-le _ (start .args .block .now) (end-inside (start .args .block .now) 0 _ (omega arith) (c .before .line-end .ensures)))
 
+-- ---- the held line, with what the block has of it
+
+abbrev start : tie.After-keep → tie.Start
+start k = k .before .before .before .before .before .before .before .before .before
+
 returns-2 : tie.Need-returns-2
 returns-2 c =
-    let start = c .before .before .before .before .before .before .before .before .before .before in
-    held-on (start .args .s) (start .args .block .now) (start .args .out .now) (c .before .before .before .line-end .result) (c .before .keep .result) (start .pre .0) (start .pre .1 .0) (c .before .before .before .line-end .ensures) (c .if2 .taken) (c .before .keep .ensures)
+    let k = c .before in
+    let s = start k in
+    let end = k .before .before .line-end in
+    held-on (s .args .s) (s .args .block .now) (s .args .out .now) (end .result) (k .keep .result) (s .pre .0) (s .pre .1 .0) (end .ensures) (c .if2 .taken) (k .keep .ensures)
+
+few : (k : tie.After-keep) → k .keep .result .count ≤ length (k .keep .result .bytes)
+few k = let e : length (k .keep .result .bytes) ≡ 121 = search needs in omega (arith, e, k .keep .ensures .count)
 
 array-share-prefix-bytes : tie.Need-array-share-prefix-bytes
-array-share-prefix-bytes c =
-    let e : length (c .before .before .keep .result .bytes) ≡ 121 = search needs in
-    omega (arith, e, c .before .before .keep .ensures .count)
+array-share-prefix-bytes c = few (c .before .before)
 
 slice-aggregate-answer-line : tie.Need-slice-aggregate-answer-line
-slice-aggregate-answer-line c =
-    let e : length (c .before .before .before .keep .result .bytes) ≡ 121 = search needs in
-    sym (length-take-le _ (c .before .before .before .keep .result .bytes) (omega (arith, e, c .before .before .before .keep .ensures .count)))
+slice-aggregate-answer-line c = sym (length-take-le _ _ (few (c .before .before .before)))
+
+-- it ends within the block
+inside : (c : tie.Else2) → c .before .before .before .line-end .result < length (start (c .before) .args .block .now)
+inside c = omega (arith, end-inside _ 0 _ (omega arith) (c .before .before .before .line-end .ensures), c .if2 .left)
 
 add-t20 : tie.Need-add-t20
 add-t20 c =
-    let start = c .before .before .before .before .before .before .before .before .before .before .before .before .before .before .before .before .before .before in
-    record { fits = omega (arith, end-inside (start .args .block .now) 0 _ (omega arith) (c .before .before .before .before .before .before .before .before .before .before .before .line-end .ensures), c .before .before .before .before .before .before .before .before .if2 .left, start .good .1 .0 .0) }
+    let t = c .before .before .before .before .before .before .before .before in
+    record { fits = omega (arith, inside t, start (t .before) .good .1 .0 .0) }
 
 returns-3 : tie.Need-returns-3
 returns-3 c =
-    let start = c .before .before .before .before .before .before .before .before .before .before .before .before .before .before .before .before .before .before in
-    let w = end-inside (start .args .block .now) 0 _ (omega arith) (c .before .before .before .before .before .before .before .before .before .before .before .line-end .ensures) in
-    held-ends (start .args .s) (start .args .block .now) (start .args .out .now) _ (c .before .before .before .before .before .before .before .before .before .before .before .line-end .result) (c .before .before .before .before .before .before .before .before .before .keep .result) (c .before .before .before .before .answer-line .result .state) _ (c .nothing-held .result) (start .pre .1 .0) (c .before .before .before .before .before .before .before .before .before .before .before .line-end .ensures)
-    (omega (arith, w, c .before .before .before .before .before .before .before .before .if2 .left)) (c .before .before .before .before .before .before .before .before .before .keep .ensures) (c .before .before .before .before .answer-line .ensures) (c .nothing-held .ensures)
+    let t = c .before .before .before .before .before .before .before .before in
+    let k = t .before in
+    let s = start k in
+    let end = k .before .before .line-end in
+    let answer = c .before .before .before .before .answer-line in
+    held-ends (s .args .s) (s .args .block .now) (s .args .out .now) _ (end .result) (k .keep .result) (answer .result .state) _ (c .nothing-held .result) (s .pre .1 .0) (end .ensures)
+    (inside t) (k .keep .ensures) (answer .ensures) (c .nothing-held .ensures)
 
 pub feed-spec : {M : Type 1} → statement M
 feed-spec =

@@ -1,6 +1,5 @@
 -- `put_refusal`: three writes, one after the other.
 use Prim.Native.Nat.{_<_, _≤_}
-use mathlib.Core.Path.{_≡_}
 use lib.ListN.{length}
 use native.Mathlib.Omega.{arith}
 use Rattle.model.specs.Reply.{decimal}

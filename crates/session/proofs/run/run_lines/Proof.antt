@@ -7,8 +7,8 @@ use mathlib.Core.Logic.{⊎-elim}
 use native.Mathlib.Omega.{arith}
 use borrow.Author.Needs.{needs}
 use lib.ListN.{length, take, drop}
-use Rattle.model.specs.Stored.{stateOf, memoryShaped}
-use Rattle.commands.specs.Done.{done, Fits}
+use Rattle.model.specs.Stored.{stateOf}
+use Rattle.commands.proofs.Deeds.{put-fits, remove-fits, applied-keep, applied-error, applied-put, applied-remove, applied-enable, applied-level, applied-save, applied-restore, applied-reset}
 use Rattle.lines.specs.Before.{before}
 use Rattle.lines.proofs.Laws.{end-inside}
 use Rattle.session.specs.Blocks.{Run}
@@ -45,161 +45,77 @@ line-end-requires c κs = c .before .loop .inv .within
 
 -- ---- a line that ends in the block
 
+-- the turn of the loop that it is found in
+abbrev turn : tie.Else1 Inv-loop μ-loop → tie.At-loop Inv-loop μ-loop
+turn c = c .before .before .before
+
+-- and the start of all
+abbrev start : tie.Else1 Inv-loop μ-loop → tie.Start Inv-loop μ-loop
+start c = turn c .before .before .before .before .before
+
 -- its end lies within
-inside : (c : tie.Else1 Inv-loop μ-loop) → c .before .line-end .result < length (c .before .before .before .before .before .before .before .before .args .block .now)
-inside c =
-    omega (arith, end-inside _ _ _ (c .before .before .before .loop .inv .within) (c .before .line-end .ensures), c .if1 .left)
+inside : (c : tie.Else1 Inv-loop μ-loop) → c .before .line-end .result < length (start c .args .block .now)
+inside c = omega (arith, end-inside _ _ _ (turn c .loop .inv .within) (c .before .line-end .ensures), c .if1 .left)
 
 part-line-end : tie.Need-part-line-end Inv-loop μ-loop
 part-line-end c = omega (arith, inside c)
 
 sub-decide : tie.Need-sub-decide Inv-loop μ-loop
-sub-decide c = omega (arith, c .before .before .before .before .loop .inv .room, c .before .before .before .before .loop .inv .long)
+sub-decide c = let l = turn (c .before) .loop in omega (arith, l .inv .room, l .inv .long)
 
 decide-requires : tie.Need-decide-requires Inv-loop μ-loop
-decide-requires c κs = fine-volatile _ (c .before .before .before .before .before .loop .inv .fine)
+decide-requires c κs = fine-volatile _ (turn (c .before .before) .loop .inv .fine)
 
 sub-say : tie.Need-sub-say Inv-loop μ-loop
 sub-say c =
-    let l = c .before .before .before .before .before .before .before .before .before .loop in
+    let l = turn (c .before .before .before .before .before .before) .loop in
     omega (arith, c .before .before .out .given .1, l .inv .room, l .inv .long)
 
 say-requires : tie.Need-say-requires Inv-loop μ-loop
 say-requires c κs =
-    let l = c .before .before .before .before .before .before .before .before .before .before .loop in
-    rw (rest-long (withRest (l .out) (l .written) (c .before .before .before .before .decide .last .1 .1 .1 .1 .0)) (l .written)) (omega (arith, c .before .before .before .out .given .1, c .before .before .before .before .before .before .before .before .before .loop-test .taken))
+    let p = c .before .before .before .before .before .before .before in
+    let l = turn p .loop in
+    rw (rest-long (withRest (l .out) (l .written) (c .before .before .before .before .decide .last .1 .1 .1 .1 .0)) (l .written))
+    (omega (arith, c .before .before .before .out .given .1, p .before .before .loop-test .taken))
 
 -- ---- its turn
 
 -- what was decided is said
+abbrev ended : tie.After-slice-known3 Inv-loop μ-loop → tie.Else1 Inv-loop μ-loop
+ended c = c .before .before .before .before .before .before .before .before .before .before
+
 said : (c : tie.After-slice-known3 Inv-loop μ-loop) →
-    let l = c .before .before .before .before .before .before .before .before .before .before .before .before .before .loop in
-    let start = c .before .before .before .before .before .before .before .before .before .before .before .before .before .before .before .before .before .before in
+    let p = ended c in
+    let l = turn p .loop in
+    let a = start p .args in
     let step = c .before .before .before .before .before .before .before .decide in
-    Turned (stateOf (start .args .s)) (start .args .block .now) (start .args .out .now)
+    Turned (stateOf (a .s)) (a .block .now) (a .out .now)
     (withRest (withRest (l .out) (l .written) (step .last .1 .1 .1 .1 .0)) (l .written) (c .before .before .say .last .1 .1 .0))
-    (stateWith (l .volatile) (l .permanent) (l .level) (l .error)) (step .result .decision)
-    (c .before .before .before .before .before .before .before .before .before .before .before .line-end .result + 1) (l .written + c .before .before .say .result)
+    (stateWith (l .volatile) (l .permanent) (l .level) (l .error)) (step .result .decision) (p .before .line-end .result + 1) (l .written + c .before .before .say .result)
 said c =
-    let p = c .before .before .before .before .before .before .before .before .before .before in
-    let l = c .before .before .before .before .before .before .before .before .before .before .before .before .before .loop in
-    let start = c .before .before .before .before .before .before .before .before .before .before .before .before .before .before .before .before .before .before in
+    let p = ended c in
+    let l = turn p .loop in
+    let a = start p .args in
     let step = c .before .before .before .before .before .before .before .decide in
-    let block = start .args .block .now in
     let end = p .before .line-end in
-    let size : end .result - l .used ≡ before (drop (l .used) block) = omega (arith, end .ensures) in
-    turned (stateOf (start .args .s)) block (start .args .out .now) (l .out) (stateWith (l .volatile) (l .permanent) (l .level) (l .error)) (l .used) (l .written) (l .inv)
-    (end .result) (end .ensures) (inside p) _ (ap (λ (k : ℕ). take k (drop (l .used) block)) size)
+    let s = stateWith (l .volatile) (l .permanent) (l .level) (l .error) in
+    let size : end .result - l .used ≡ before (drop (l .used) (a .block .now)) = omega (arith, end .ensures) in
+    turned (stateOf (a .s)) (a .block .now) (a .out .now) (l .out) s (l .used) (l .written) (l .inv)
+    (end .result) (end .ensures) (inside p) _ (ap (λ (k : ℕ). take k (drop (l .used) (a .block .now))) size)
     (rw (rest-long (l .out) (l .written)) (omega (arith, p .before .before .loop-test .taken)))
-    (step .result) _ (step .ensures (stateWith (l .volatile) (l .permanent) (l .level) (l .error)) refl refl refl (l .inv .fine)) (c .before .before .before .before .before .before .out .given .0) _ _ (c .before .before .say .ensures) (c .before .out2 .given .0)
+    (step .result) _ (step .ensures s refl refl refl (l .inv .fine)) (c .before .before .before .before .before .before .out .given .0) _ _ (c .before .before .say .ensures) (c .before .out2 .given .0)
 
 add-written : tie.Need-add-written Inv-loop μ-loop
-add-written c =
-    let start = c .before .before .before .before .before .before .before .before .before .before .before .before .before .before .before .before .before .before in
-    record { fits = omega (arith, said c .room, start .good .1 .1 .0 .0) }
+add-written c = record { fits = omega (arith, said c .room, start (ended c) .good .1 .1 .0 .0) }
 
 add-used : tie.Need-add-used Inv-loop μ-loop
-add-used c =
-    let start = c .before .before .before .before .before .before .before .before .before .before .before .before .before .before .before .before .before .before in
-    record { fits = omega (arith, inside (c .before .before .before .before .before .before .before .before .before .before), start .good .1 .0 .0) }
+add-used c = record { fits = omega (arith, inside (ended c), start (ended c) .good .1 .0 .0) }
 
 -- less is left of the block
 less : (c : tie.After-slice-known3 Inv-loop μ-loop) →
-    let block = c .before .before .before .before .before .before .before .before .before .before .before .before .before .before .before .before .before .before .args .block .now in
-    length block - (c .before .before .before .before .before .before .before .before .before .before .before .line-end .result + 1) < length block - c .before .before .before .before .before .before .before .before .before .before .before .before .before .loop .used
-less c =
-    omega (arith, inside (c .before .before .before .before .before .before .before .before .before .before), c .before .before .before .before .before .before .before .before .before .before .before .line-end .ensures)
-
--- ---- what was decided is done
-
-loop-less : tie.Need-loop-less Inv-loop μ-loop
-loop-less c = less (c .before .before)
-
-loop-again : tie.Need-loop-again Inv-loop μ-loop
-unfolding done
-loop-again c =
-    let t = said (c .before .before) in
-    t .next _ (rw (c .enum-told .given .1) refl) (t .volatile) (t .permanent)
-
-loop-less-2 : tie.Need-loop-less-2 Inv-loop μ-loop
-loop-less-2 c = less (c .before .before .before)
-
-loop-again-2 : tie.Need-loop-again-2 Inv-loop μ-loop
-unfolding done
-loop-again-2 c =
-    let t = said (c .before .before .before) in
-    t .next _ (rw (c .before .deed .given .1) refl) (t .volatile) (t .permanent)
-
-put-at-requires : tie.Need-put-at-requires Inv-loop μ-loop
-unfolding Fits
-put-at-requires c κs = rw (c .before .deed2 .given .1) at (said (c .before .before .before) .doable .fits)
-
-loop-less-3 : tie.Need-loop-less-3 Inv-loop μ-loop
-loop-less-3 c = less (c .before .before .before .before)
-
-loop-again-3 : tie.Need-loop-again-3 Inv-loop μ-loop
-unfolding done
-loop-again-3 c =
-    let t = said (c .before .before .before .before) in
-    t .next _ (rw (c .before .before .deed2 .given .1, ← c .put-at .ensures .0) refl) (c .put-at .ensures .1 (t .volatile) (t .doable .named)) (t .permanent)
-
-removed-at-requires : tie.Need-removed-at-requires Inv-loop μ-loop
-unfolding Fits
-removed-at-requires c κs = rw (c .before .deed3 .given .1) at (said (c .before .before .before) .doable .fits)
-
-loop-less-4 : tie.Need-loop-less-4 Inv-loop μ-loop
-loop-less-4 c = less (c .before .before .before .before)
-
-loop-again-4 : tie.Need-loop-again-4 Inv-loop μ-loop
-unfolding done
-loop-again-4 c =
-    let t = said (c .before .before .before .before) in
-    t .next _ (rw (c .before .before .deed3 .given .1, ← c .removed-at .ensures .0) refl) (c .removed-at .ensures .1 (t .volatile)) (t .permanent)
-
-loop-less-5 : tie.Need-loop-less-5 Inv-loop μ-loop
-loop-less-5 c = less (c .before .before .before)
-
-loop-again-5 : tie.Need-loop-again-5 Inv-loop μ-loop
-unfolding done memoryShaped
-loop-again-5 c =
-    let t = said (c .before .before .before) in
-    t .next _ (rw (c .before .deed4 .given .1) refl) (t .volatile) (t .permanent)
-
-loop-less-6 : tie.Need-loop-less-6 Inv-loop μ-loop
-loop-less-6 c = less (c .before .before .before)
-
-loop-again-6 : tie.Need-loop-again-6 Inv-loop μ-loop
-unfolding done
-loop-again-6 c =
-    let t = said (c .before .before .before) in
-    t .next _ (rw (c .before .deed5 .given .1) refl) (t .volatile) (t .permanent)
-
-loop-less-7 : tie.Need-loop-less-7 Inv-loop μ-loop
-loop-less-7 c = less (c .before .before)
-
-loop-again-7 : tie.Need-loop-again-7 Inv-loop μ-loop
-unfolding done
-loop-again-7 c =
-    let t = said (c .before .before) in
-    t .next _ (rw (c .enum-told2 .given .1) refl) (t .volatile) (t .volatile)
-
-loop-less-8 : tie.Need-loop-less-8 Inv-loop μ-loop
-loop-less-8 c = less (c .before .before)
-
-loop-again-8 : tie.Need-loop-again-8 Inv-loop μ-loop
-unfolding done
-loop-again-8 c =
-    let t = said (c .before .before) in
-    t .next _ (rw (c .enum-told3 .given .1) refl) (t .permanent) (t .permanent)
-
-loop-less-9 : tie.Need-loop-less-9 Inv-loop μ-loop
-loop-less-9 c = less (c .before .before .before)
-
-loop-again-9 : tie.Need-loop-again-9 Inv-loop μ-loop
-unfolding done
-loop-again-9 c =
-    let t = said (c .before .before .before) in
-    t .next _ (rw (c .before .enum-told4 .given .1, ← c .factory-memory .ensures .0) refl) (c .factory-memory .ensures .1) (t .permanent)
+    let block = start (ended c) .args .block .now in
+    length block - (ended c .before .line-end .result + 1) < length block - turn (ended c) .loop .used
+less c = omega (arith, inside (ended c), ended c .before .line-end .ensures)
 
 -- ---- the end
 
@@ -236,35 +152,35 @@ run-lines-spec =
     add-written
     add-used
     (λ c. search needs)
-    loop-less
-    loop-again
+    (λ c. less (c .before .before))
+    (λ c. said (c .before .before) .next (applied-keep (c .enum-told .given .1)))
     (λ c. search needs)
-    loop-less-2
-    loop-again-2
+    (λ c. less (c .before .before .before))
+    (λ c. said (c .before .before .before) .next (applied-error (c .before .deed .given .1)))
     (λ c. search needs)
-    put-at-requires
-    loop-less-3
-    loop-again-3
+    (λ c κs. put-fits (said (c .before .before .before) .doable) (c .before .deed2 .given .1))
+    (λ c. less (c .before .before .before .before))
+    (λ c. let t = said (c .before .before .before .before) in t .next (applied-put (c .before .before .deed2 .given .1) (t .doable) _ (c .put-at .ensures)))
     (λ c. search needs)
-    removed-at-requires
-    loop-less-4
-    loop-again-4
+    (λ c κs. remove-fits (said (c .before .before .before) .doable) (c .before .deed3 .given .1))
+    (λ c. less (c .before .before .before .before))
+    (λ c. said (c .before .before .before .before) .next (applied-remove (c .before .before .deed3 .given .1) _ (c .removed-at .ensures)))
     (λ c. search needs)
-    loop-less-5
-    loop-again-5
+    (λ c. less (c .before .before .before))
+    (λ c. said (c .before .before .before) .next (applied-enable (c .before .deed4 .given .1)))
     (λ c. search needs)
-    loop-less-6
-    loop-again-6
+    (λ c. less (c .before .before .before))
+    (λ c. said (c .before .before .before) .next (applied-level (c .before .deed5 .given .1)))
     (λ c. search needs)
-    loop-less-7
-    loop-again-7
+    (λ c. less (c .before .before))
+    (λ c. said (c .before .before) .next (applied-save (c .enum-told2 .given .1)))
     (λ c. search needs)
-    loop-less-8
-    loop-again-8
+    (λ c. less (c .before .before))
+    (λ c. said (c .before .before) .next (applied-restore (c .enum-told3 .given .1)))
     (λ c. search needs)
     (λ c κs. search needs)
-    loop-less-9
-    loop-again-9
+    (λ c. less (c .before .before .before))
+    (λ c. said (c .before .before .before) .next (applied-reset (c .before .enum-told4 .given .1) _ (c .factory-memory .ensures)))
     (λ c κs. search needs)
     same-length
     returns)

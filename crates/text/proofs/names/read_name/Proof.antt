@@ -14,7 +14,7 @@ use Rattle.model.specs.Words.{upper, legalName, capital, nameByte}
 use Rattle.text.specs.Cursor.{wordAt, wordOf}
 use Rattle.text.specs.declared.names.NameRead.{NameRead}
 use Rattle.text.proofs.Lists.{all-next, all-stop, all-end}
-use Rattle.text.proofs.NameLaws.{legal-none, legal-long, legal-first, legal-bytes, stored-next, read-none, read-some}
+use Rattle.text.proofs.NameLaws.{legal-none, legal-long, legal-first, legal-bytes, stored-next, reads-none, reads-some}
 use Rattle.text.proofs.WordLaws.{length-word, word-at}
 use Rattle.text.proofs.names.read_name.Statement.{statement}
 use Rattle.text.proofs.names.read_name.Tie as tie
@@ -41,10 +41,10 @@ sub-n : tie.Need-sub-n Inv-loop μ-loop
 sub-n c = c .before .before .pre .ordered
 
 returns : tie.Need-returns Inv-loop μ-loop
-returns c = let s = c .before .before .before .before in c .illegal .ensures ∙ sym (read-none (Word s) (legal-none (Word s) (long s ∙ c .before .if1 .taken)))
+returns c = let s = c .before .before .before .before in reads-none (Word s) (legal-none (Word s) (long s ∙ c .before .if1 .taken)) (c .illegal .ensures)
 
 returns-2 : tie.Need-returns-2 Inv-loop μ-loop
-returns-2 c = let s = c .before .before .before .before .before in c .illegal2 .ensures ∙ sym (read-none (Word s) (legal-long (Word s) (omega (arith, long s, c .before .if2 .taken))))
+returns-2 c = let s = c .before .before .before .before .before in reads-none (Word s) (legal-long (Word s) (omega (arith, long s, c .before .if2 .taken))) (c .illegal2 .ensures)
 
 shared-slice-read-upper : tie.Need-shared-slice-read-upper Inv-loop μ-loop
 shared-slice-read-upper c = let s = c .before .before .before .before .before in omega (arith, inside s, c .before .before .if1 .left)
@@ -63,7 +63,7 @@ returns-3 : tie.Need-returns-3 Inv-loop μ-loop
 returns-3 c =
     let b = c .before .before in
     let s = b .before .before .before .before .before .before .before in
-    c .illegal3 .ensures ∙ sym (read-none (Word s) (legal-first (Word s) (first b ∙ not-true _ (c .before .if3 .taken))))
+    reads-none (Word s) (legal-first (Word s) (first b ∙ not-true _ (c .before .if3 .taken))) (c .illegal3 .ensures)
 
 loop-holds : tie.Need-loop-holds Inv-loop μ-loop
 loop-holds c =
@@ -102,8 +102,8 @@ returns-4 c =
     let k = u .before .before .before in
     let w = Word (StartOf k) in
     let e : nameByte (getD w (k .loop .i) 0) ≡ false = ap nameByte (byte u) ∙ sym (b .name-byte .ensures) ∙ not-true _ (c .before .if4 .taken) in
-    c .illegal4 .ensures ∙
-    sym (read-none w (k .loop .inv .4 ∙ all-stop nameByte w (k .loop .i) 0 (omega (arith, long (StartOf k), u .before .before .loop-test .taken)) e))
+    reads-none w (k .loop .inv .4 ∙ all-stop nameByte w (k .loop .i) 0 (omega (arith, long (StartOf k), u .before .before .loop-test .taken)) e)
+    (c .illegal4 .ensures)
 
 array-write-bytes : tie.Need-array-write-bytes Inv-loop μ-loop
 array-write-bytes c = let k = c .before .before .before .before .before in omega (arith, k .loop .inv .1, c .before .before .before .before .loop-test .taken)
@@ -149,8 +149,8 @@ returns-5 c =
     let b : k .loop .bytes ≡ w ++ z =
     v .3 ∙ ap (λ (j : ℕ). take j w ++ replicate (nameLimit - j) 0) e ∙ ap (λ (l : List ℕ). l ++ z) (take-length w)
     in
-    ap (λ (l : List ℕ). made l (s .args .w .end - s .args .w .start)) b ∙ ap (made (w ++ z)) (sym (long s)) ∙
-    sym (read-some w (v .4 ∙ all-end nameByte w (k .loop .i) (omega arith)))
+    reads-some w (v .4 ∙ all-end nameByte w (k .loop .i) (omega arith))
+    (ap (λ (l : List ℕ). made l (s .args .w .end - s .args .w .start)) b ∙ ap (made (w ++ z)) (sym (long s)))
 
 pub read-name-spec : {M : Type 1} → statement M
 read-name-spec =

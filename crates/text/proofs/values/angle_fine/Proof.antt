@@ -19,4 +19,4 @@ unfolding angle?
 returns-2 c = rw (← is (c .before), ne-eqb _ _ (c .if1 .left))
 
 pub angle-fine-spec : {M : Type 1} → statement M
-angle-fine-spec = tie.close (tie.spec (λ c κs. search needs) returns returns-2)
+angle-fine-spec = tie.close (tie.spec (λ c κs. search needs) (λ c. search needs) returns returns-2)

@@ -1,0 +1,22 @@
+// The halves of an enabled operating part; a half that is not there is ZERO, place 0.
+use model::OperatingPart;
+ghost use mathlib.Core.Path.{_≡_};
+ghost use Rattle.model.specs.Effects.{workHalf, toolHalf};
+
+pub fn work_half(o: OperatingPart) -> u8
+    ensures { λ r. ⌜ r ≡ workHalf o ⌝ }
+{
+    match o {
+        OperatingPart::Single(_) => 0,
+        OperatingPart::Pair(w, _) => w,
+    }
+}
+
+pub fn tool_half(o: OperatingPart) -> u8
+    ensures { λ r. ⌜ r ≡ toolHalf o ⌝ }
+{
+    match o {
+        OperatingPart::Single(_) => 0,
+        OperatingPart::Pair(_, t) => t,
+    }
+}

@@ -1,4 +1,0 @@
-// ksrun on a shared vector.
-fn main() {
-    console::run()
-}

@@ -1,4 +1,0 @@
-// A script of the shared vectors, run by ksscript.
-fn main() {
-    script::run();
-}
