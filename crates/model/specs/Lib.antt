@@ -32,4 +32,5 @@ pub mod Sessions
 pub mod Table
 pub mod Stored
 pub mod Histories
+pub mod PowerSwitch
 pub mod Examples

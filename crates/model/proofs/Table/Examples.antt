@@ -84,7 +84,7 @@ of-images = record { writing = refl; starting = refl; refused-forms = refl; refu
 
 of-histories : OfHistories
 unfolding sessions-open
-of-histories = record { still = refl; prints = refl }
+of-histories = record { still = refl; prints = refl; switched = refl }
 
 of-storage : OfStorage
 unfolding sessions-open

@@ -1,0 +1,150 @@
+-- Document 02 §7, proved: `finds-the-last`, `power-switch` and, of stored states, `stored-power-switch`.
+use Prim.Native.Nat.{ℕ, _≤_}
+use mathlib.Core.Path.{_≡_, refl, sym, ap, _∙_}
+use mathlib.Core.List.{List, [], _∷_, _++_}
+use mathlib.Core.Bool.{true, cond, not}
+use borrow.Author.Tests.{le-ltb, lt-ltb, not-true}
+use lib.ListN.{length, take}
+use Rattle.model.specs.Types.{StoredState}
+use Rattle.model.specs.Limits.{bufferLimit}
+use Rattle.model.specs.Memory.{Memory, State, started}
+use Rattle.model.specs.WellFormed.{wellFormed}
+use Rattle.model.specs.Refusals.{short}
+use Rattle.model.specs.Machine.{Begun, began, stepped, restart, startImage}
+use Rattle.model.specs.Trace.{Call, line, restarting, called, afterCalls, afterLines}
+use Rattle.model.specs.Demand.{Start, factory-start, image-start, startState}
+use Rattle.model.specs.Stored.{holds, stateOf, viewOf, memoryOf, Answered, ofOutcome, ofBegun}
+use Rattle.model.specs.Histories.{Returned, ReturnedAlone, standsAlone, RestartPromise, WritePromise, ImagePromise, Calls}
+use Rattle.model.specs.Histories as stored
+use Rattle.model.specs.PowerSwitch.{startMemory, saves, savedAfter, noneSaves, FindsTheLast, BringsBack, PowerSwitch, savedBy, StoredListsAs, StoredBringsBack, StoredPowerSwitch}
+use Rattle.model.proofs.Basics.{and-split}
+use Rattle.model.proofs.Views.{view-holds, view-is}
+use Rattle.model.proofs.Ladder.Refusing.{restart-fine, image-short, image-fine}
+use Rattle.model.proofs.Ladder.Exact.{start-some}
+use Rattle.model.proofs.Histories.Kept.{well-formed-kept}
+use Rattle.model.proofs.Edits.Saving.{line-permanent, restart-permanent}
+use Rattle.model.proofs.Histories.Saved.{lists-alike, image-back}
+use Rattle.model.proofs.Histories.Stored.{stands, line-promised, line-state, line-number, restart-promised, restart-state, write-promised, begins-held, calls-held}
+
+-- ---- the walk finds the last accepted WPA
+
+saved-unsaved : (m : Memory) (st : State) (cs : List Call) → noneSaves st cs ≡ true → savedAfter m st cs ≡ m
+unfolding noneSaves savedAfter
+saved-unsaved m st [] e = refl
+saved-unsaved m st (c ∷ cs) e =
+    let h = and-split (not (saves st c)) (noneSaves (called st c) cs) e in
+    rw (not-true (saves st c) (h .0)) (saved-unsaved m (called st c) cs (h .1))
+
+saved-append : (m : Memory) (st : State) (before later : List Call) →
+    savedAfter m st (before ++ later) ≡ savedAfter (savedAfter m st before) (afterCalls st before) later
+unfolding savedAfter afterCalls
+saved-append m st [] later = refl
+saved-append m st (c ∷ cs) later = saved-append (cond (saves st c) (st .volatile) m) (called st c) cs later
+
+saved-last : (m : Memory) (st : State) (c : Call) (later : List Call) → saves st c ≡ true → noneSaves (called st c) later ≡ true →
+    savedAfter m st (c ∷ later) ≡ st .volatile
+unfolding savedAfter
+saved-last m st c later s n = rw s (saved-unsaved (st .volatile) (called st c) later n)
+
+pub finds-the-last : FindsTheLast
+finds-the-last =
+    record {
+      none-saved = λ start calls. saved-unsaved (startMemory start) (startState start) calls;
+      last-saved = λ start before c later s n.
+          saved-append (startMemory start) (startState start) before (c ∷ later) ∙ saved-last _ (afterCalls (startState start) before) c later s n;
+    }
+
+-- ---- the permanent memory is what the walk finds
+
+call-permanent : (st : State) (c : Call) → called st c .permanent ≡ cond (saves st c) (st .volatile) (st .permanent)
+unfolding called saves
+call-permanent st (line bytes b) = line-permanent st bytes b
+call-permanent st restarting = restart-permanent st
+
+calls-permanent : (m : Memory) (st : State) (cs : List Call) → st .permanent ≡ m → afterCalls st cs .permanent ≡ savedAfter m st cs
+unfolding afterCalls savedAfter
+calls-permanent m st [] e = e
+calls-permanent m st (c ∷ cs) e =
+    calls-permanent (cond (saves st c) (st .volatile) m) (called st c) cs (call-permanent st c ∙ ap (cond (saves st c) (st .volatile)) e)
+
+start-permanent : (start : Start) → startState start .permanent ≡ startMemory start
+unfolding startState startMemory
+start-permanent factory-start = refl
+start-permanent (image-start bytes m e) = ap (λ (o : Begun). o .state .permanent) (start-some bytes m e)
+
+-- ---- a well-formed state brings back its permanent memory
+
+module _ (st : State) (w : wellFormed st ≡ true) where
+  permanent-back : BringsBack (st .permanent) st
+  unfolding short
+  permanent-back =
+      record {
+        permanent = refl;
+        restarts = restart-fine st w;
+        lists = λ then f e. lists-alike then (restart st .state) f (well-formed-kept .restarting st w)
+            (ap (λ (o : Begun). o .state .volatile) (restart-fine st w) ∙ sym e);
+        short = λ b few. image-short st b w (lt-ltb (length b) bufferLimit few);
+        written = λ b room. image-fine st b w (le-ltb (length b) bufferLimit room);
+        starts = λ b room. image-back st w b room ∙ sym (restart-fine st w);
+      }
+
+pub power-switch : PowerSwitch
+unfolding afterLines
+power-switch start calls =
+    let st = afterCalls (startState start) calls in
+    let e = calls-permanent (startMemory start) (startState start) calls (start-permanent start) in
+    rw (← e) (permanent-back st (well-formed-kept .history start calls []))
+
+-- ---- stored states
+
+-- both walks find the same
+walks-alike : {s s′ : StoredState} {cs : List Call} (m : Memory) (st : State) → viewOf s ≡ holds st → (h : Calls s cs s′) → savedBy m h ≡ savedAfter m st cs
+unfolding savedBy savedAfter saves called
+walks-alike m st e (stored.none s) = refl
+walks-alike m st e (stored.then-line s s′ l b r cs p rest) =
+    let n = line-number s st e l b r p in
+    let v : memoryOf (s .volatile) ≡ st .volatile = ap (λ (t : State). t .volatile) (view-is s st e .1) in
+    rw (n, v) (walks-alike _ (stepped st l b .state) (line-state s st e l b r p) rest)
+walks-alike m st e (stored.then-restart s s′ r cs p rest) = walks-alike m (restart st .state) (restart-state s st e r p) rest
+
+-- a stored state that stands for one of the machine has what that one has
+module _ (s : StoredState) (st : State) (h : viewOf s ≡ holds st) (m : Memory) (back : BringsBack m st) where
+  restart-again : (r : ReturnedAlone) → RestartPromise s r → standsAlone r ≡ ofBegun (began (started m) 0)
+  restart-again r p = restart-promised s st h r p ∙ ap ofBegun (back .restarts)
+
+  listed-again : (r : ReturnedAlone) → RestartPromise s r → StoredListsAs m (r .state)
+  listed-again r p then f e l b q asked a a′ promised promised′ =
+      let o = line-promised then (stateOf then) (view-holds then (f .shape)) l b a promised in
+      let o′ = line-promised (r .state) (restart st .state) (restart-state s st h r p) l b a′ promised′ in
+      let same = back .lists (stateOf then) (f .formed) e l b q asked in (
+        ap (λ (x : Answered). x .number) o′ ∙ same .0 ∙ sym (ap (λ (x : Answered). x .number) o),
+        ap (λ (x : Answered). x .count) o′ ∙ same .1 ∙ sym (ap (λ (x : Answered). x .count) o),
+        ap (λ (x : Answered). x .buffer) o′ ∙ same .2 ∙ sym (ap (λ (x : Answered). x .buffer) o),
+      )
+
+  image-again : (b : List ℕ) (r : Returned) → WritePromise s b r → bufferLimit ≤ length b →
+      (r′ : ReturnedAlone) → ImagePromise (take (r .count) (r .buffer)) r′ → standsAlone r′ ≡ ofBegun (began (started m) 0)
+  image-again b r p room r′ p′ =
+      let o = write-promised s st h b r p in
+      p′
+      ∙ ap (λ (x : Answered). ofBegun (startImage (take (x .count) (x .buffer)))) o
+      ∙ ap ofBegun (back .starts b room ∙ back .restarts)
+
+  stored-back : StoredBringsBack m s
+  stored-back =
+      let e = view-is s st h .1 in
+      record {
+        stands = stands s st h;
+        permanent = ap (λ (t : State). t .permanent) e ∙ back .permanent;
+        restarts = restart-again;
+        lists = listed-again;
+        short = λ b r p few. write-promised s st h b r p ∙ ap ofOutcome (rw e (back .short b few));
+        written = λ b r p room. write-promised s st h b r p ∙ ap ofOutcome (rw e (back .written b room));
+        starts = image-again;
+      }
+
+pub stored-power-switch : StoredPowerSwitch
+stored-power-switch start calls s₀ s begun history =
+    let h₀ = begins-held begun in
+    let same = walks-alike (startMemory start) (startState start) h₀ history in
+    (same, rw same (stored-back s _ (calls-held (startState start) h₀ history) _ (power-switch start calls)))
