@@ -15,7 +15,7 @@ use Rattle.model.specs.Trace.{Call, line, restarting, called, afterCalls
 use Rattle.model.specs.Demand.{Start, factory-start, image-start, startState}
 use Rattle.model.specs.Checklist.{asksToSave, ListsAlike}
 use Rattle.model.specs.Stored.{memoryOf, stateOf, FineState, ofOutcome, ofBegun}
-use Rattle.model.specs.Histories.{Returned, ReturnedAlone, standsFor, standsAlone, LinePromise, RestartPromise, WritePromise, ImagePromise, Begins, Calls, Stands}
+use Rattle.model.specs.Histories.{Returned, ReturnedAlone, standsFor, standsAlone, LinePromise, RestartPromise, WritePromise, ImagePromise, Begins, Calls}
 use Rattle.model.specs.Histories as stored
 
 -- ---- what was last saved
@@ -55,11 +55,14 @@ pub record FindsTheLast : Type 0 where
 
 -- ---- what the machine has, m being what was last saved
 
--- [02 §7] every listing asked of st has the bytes that it had in any well-formed state with m as volatile memory, the one that saved m among them
+-- [02 §7] every listing asked of st has the bytes that it had in whatever well-formed state had m as volatile memory: the one that saved m, or any other
 abbrev pub ListsAs : Memory → State → Type 0
 ListsAs m st = (then : State) → wellFormed then ≡ true → then .volatile ≡ m → ListsAlike then st
 
 pub record BringsBack (m : Memory) (st : State) : Type 0 where
+  -- it is well formed, as at every turn: the state that saved m is one of those with which listings are compared
+  pub fine : wellFormed st ≡ true
+  -- m is what it keeps
   pub permanent : st .permanent ≡ m
   -- a restart sent next is accepted, and gives what a start with m gives: both memories, level 0, error 0
   pub restarts : restart st ≡ began (started m) 0
@@ -89,7 +92,7 @@ StoredListsAs m s =
     (r′ .number ≡ r .number) × (r′ .count ≡ r .count) × (r′ .buffer ≡ r .buffer)
 
 pub record StoredBringsBack (m : Memory) (s : StoredState) : Type 0 where
-  pub stands : Stands s
+  pub fine : FineState s
   pub permanent : memoryOf (s .permanent) ≡ m
   pub restarts : (r : ReturnedAlone) → RestartPromise s r → standsAlone r ≡ ofBegun (began (started m) 0)
   pub lists : (r : ReturnedAlone) → RestartPromise s r → StoredListsAs m (r .state)

@@ -25,7 +25,7 @@ use Rattle.model.proofs.Views.{view-is}
 
 -- ---- views
 
-pub stands : (s : StoredState) (st : State) → viewOf s ≡ holds st → Stands s
+stands : (s : StoredState) (st : State) → viewOf s ≡ holds st → Stands s
 stands s st e = e ∙ ap holds (sym (view-is s st e .1))
 
 -- ---- one call

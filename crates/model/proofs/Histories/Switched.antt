@@ -24,7 +24,7 @@ use Rattle.model.proofs.Ladder.Exact.{start-some}
 use Rattle.model.proofs.Histories.Kept.{well-formed-kept}
 use Rattle.model.proofs.Edits.Saving.{line-permanent, restart-permanent}
 use Rattle.model.proofs.Histories.Saved.{lists-alike, image-back}
-use Rattle.model.proofs.Histories.Stored.{stands, line-promised, line-state, line-number, restart-promised, restart-state, write-promised, begins-held, calls-held}
+use Rattle.model.proofs.Histories.Stored.{line-promised, line-state, line-number, restart-promised, restart-state, write-promised, begins-held, calls-held}
 
 -- ---- the walk finds the last accepted WPA
 
@@ -79,6 +79,7 @@ module _ (st : State) (w : wellFormed st ≡ true) where
   unfolding short
   permanent-back =
       record {
+        fine = w;
         permanent = refl;
         restarts = restart-fine st w;
         lists = λ then f e. lists-alike then (restart st .state) f (well-formed-kept .restarting st w)
@@ -134,7 +135,7 @@ module _ (s : StoredState) (st : State) (h : viewOf s ≡ holds st) (m : Memory)
   stored-back =
       let e = view-is s st h .1 in
       record {
-        stands = stands s st h;
+        fine = record { shape = view-is s st h .0; formed = rw e (back .fine) };
         permanent = ap (λ (t : State). t .permanent) e ∙ back .permanent;
         restarts = restart-again;
         lists = listed-again;
