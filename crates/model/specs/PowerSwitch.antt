@@ -1,5 +1,6 @@
--- Document 02 §7: what the power switch brings back. The bench goes off without warning, after any call. What was last saved is found by a walk along the
--- calls, which looks at the volatile memory alone; that the machine keeps just this, and has it back when it is switched on, is what is claimed.
+-- Document 02 §7, the power switch. The bench goes off without warning, after any call. What was last saved is found by a walk along the
+-- calls, which looks at numbers and at the volatile memory, never at the permanent one; that the machine keeps just this, and has it back when it is switched on, is
+-- what is claimed.
 -- The statements only; they are proved in proofs/Histories/Switched.
 use Prim.Native.Nat.{_≤_, _<_}
 use mathlib.Core.Path.{_≡_}
@@ -10,11 +11,11 @@ use Rattle.model.specs.Memory.{Memory, State, factory, started}
 use Rattle.model.specs.WellFormed.{wellFormed}
 use Rattle.model.specs.Request.{Query, reading, asks, list}
 use Rattle.model.specs.Image.{image}
-use Rattle.model.specs.Machine.{refused, answered, began, stepped, restart, writeImage, startImage}
+use Rattle.model.specs.Machine.{refused, answered, began, stepped, restart, writeImage}
 use Rattle.model.specs.Trace.{Call, line, restarting, called, afterCalls}
 use Rattle.model.specs.Demand.{Start, factory-start, image-start, startState}
-use Rattle.model.specs.Checklist.{asksToSave, ListsAlike}
-use Rattle.model.specs.Stored.{memoryOf, stateOf, FineState, ofOutcome, ofBegun}
+use Rattle.model.specs.Checklist.{asksToSave, ListsAlike, startFrom}
+use Rattle.model.specs.Stored.{memoryOf, stateOf, FineState, viewOf, holds, ofOutcome, ofBegun}
 use Rattle.model.specs.Histories.{Returned, ReturnedAlone, standsFor, standsAlone, LinePromise, RestartPromise, WritePromise, ImagePromise, Begins, Calls}
 use Rattle.model.specs.Histories as stored
 
@@ -46,31 +47,35 @@ unfoldable pub noneSaves : State → List Call → Bool
 noneSaves st [] = true
 noneSaves st (c ∷ cs) = not (saves st c) && noneSaves (called st c) cs
 
--- [02 §7] the start's memory if no WPA was accepted; else the volatile memory when the last one that was accepted came
-pub record FindsTheLast : Type 0 where
-  pub none-saved : (start : Start) (calls : List Call) → noneSaves (startState start) calls ≡ true → lastSaved start calls ≡ startMemory start
-  pub last-saved : (start : Start) (before : List Call) (c : Call) (later : List Call) →
-      saves (afterCalls (startState start) before) c ≡ true → noneSaves (called (afterCalls (startState start) before) c) later ≡ true →
-      lastSaved start (before ++ (c ∷ later)) ≡ afterCalls (startState start) before .volatile
+-- [02 §7] m is the first memory, if no WPA was accepted; or the volatile memory when the last accepted one came
+pub data SavedLast (first : Memory) (st : State) (calls : List Call) (m : Memory) : Type 0 where
+  never : noneSaves st calls ≡ true → m ≡ first → SavedLast first st calls m
+  last : (before : List Call) (c : Call) (later : List Call) → calls ≡ before ++ (c ∷ later) →
+      saves (afterCalls st before) c ≡ true → noneSaves (called (afterCalls st before) c) later ≡ true →
+      m ≡ afterCalls st before .volatile → SavedLast first st calls m
+
+-- [02 §7] from every start, along every list
+abbrev pub FindsTheLast : Type 0
+FindsTheLast = (start : Start) (calls : List Call) → SavedLast (startMemory start) (startState start) calls (lastSaved start calls)
 
 -- ---- what the machine has, m being what was last saved
 
 -- [02 §7] every listing asked of st has the bytes that it had in whatever well-formed state had m as volatile memory: the one that saved m, or any other
 abbrev pub ListsAs : Memory → State → Type 0
-ListsAs m st = (then : State) → wellFormed then ≡ true → then .volatile ≡ m → ListsAlike then st
+ListsAs m st = (earlier : State) → wellFormed earlier ≡ true → earlier .volatile ≡ m → ListsAlike earlier st
 
 pub record BringsBack (m : Memory) (st : State) : Type 0 where
-  -- it is well formed, as at every turn: the state that saved m is one of those with which listings are compared
+  -- the state is well formed; so was the one that saved m, and its listings are among those compared below
   pub fine : wellFormed st ≡ true
   -- m is what it keeps
   pub permanent : st .permanent ≡ m
-  -- a restart sent next is accepted, and gives what a start with m gives: both memories, level 0, error 0
-  pub restarts : restart st ≡ began (started m) 0
+  -- a restart sent next is accepted, and gives what a start with m gives
+  pub restarts : restart st ≡ began (record { volatile = m; permanent = m; level = 0; error = 0 }) 0
   pub lists : ListsAs m (restart st .state)
   -- the image that can be written here is m's, and a start from the bytes written is that restart
   pub short : (b : List ℕ) → length b < bufferLimit → writeImage st b ≡ refused st 2 b
   pub written : (b : List ℕ) → bufferLimit ≤ length b → writeImage st b ≡ answered st (image m) b
-  pub starts : (b : List ℕ) → bufferLimit ≤ length b → startImage (take (writeImage st b .count) (writeImage st b .buffer)) ≡ restart st
+  pub starts : (b : List ℕ) → bufferLimit ≤ length b → startFrom (writeImage st b) ≡ restart st
 
 -- [02 §7] after every start and every list of lines and restarts
 abbrev pub PowerSwitch : Type 0
@@ -87,8 +92,8 @@ savedBy m (stored.then-restart s s′ r cs p rest) = savedBy m rest
 -- [02 §7] a listing asked of s, and of any stored state that stands for a well-formed one with m as volatile memory
 abbrev pub StoredListsAs : Memory → StoredState → Type 0
 StoredListsAs m s =
-    (then : StoredState) → FineState then → memoryOf (then .volatile) ≡ m →
-    (l b : List ℕ) (q : Query) → reading l ≡ asks (list q) → (r r′ : Returned) → LinePromise then l b r → LinePromise s l b r′ →
+    (earlier : StoredState) → FineState earlier → memoryOf (earlier .volatile) ≡ m →
+    (l b : List ℕ) (q : Query) → reading l ≡ asks (list q) → (r r′ : Returned) → LinePromise earlier l b r → LinePromise s l b r′ →
     (r′ .number ≡ r .number) × (r′ .count ≡ r .count) × (r′ .buffer ≡ r .buffer)
 
 pub record StoredBringsBack (m : Memory) (s : StoredState) : Type 0 where
@@ -101,8 +106,13 @@ pub record StoredBringsBack (m : Memory) (s : StoredState) : Type 0 where
   pub starts : (b : List ℕ) (r : Returned) → WritePromise s b r → bufferLimit ≤ length b →
       (r′ : ReturnedAlone) → ImagePromise (take (r .count) (r .buffer)) r′ → standsAlone r′ ≡ ofBegun (began (started m) 0)
 
--- [02 §7] of every stored state that the public calls can lead to; both walks find the same
+-- [02 §7] s, to which the calls led from a start, stands for the machine's own state there; both walks find the same, and s brings it back
+pub record StoredSwitch (start : Start) (calls : List Call) (s₀ s : StoredState) (history : Calls s₀ calls s) : Type 0 where
+  pub stands : viewOf s ≡ holds (afterCalls (startState start) calls)
+  pub saved : savedBy (startMemory start) history ≡ lastSaved start calls
+  pub back : StoredBringsBack (savedBy (startMemory start) history) s
+
+-- [02 §7] of every stored state that the public calls can lead to
 abbrev pub StoredPowerSwitch : Type 0
 StoredPowerSwitch =
-    (start : Start) (calls : List Call) (s₀ s : StoredState) → Begins start s₀ → (history : Calls s₀ calls s) →
-    (savedBy (startMemory start) history ≡ lastSaved start calls) × StoredBringsBack (savedBy (startMemory start) history) s
+    (start : Start) (calls : List Call) (s₀ s : StoredState) → Begins start s₀ → (history : Calls s₀ calls s) → StoredSwitch start calls s₀ s history

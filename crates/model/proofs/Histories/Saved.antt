@@ -17,7 +17,7 @@ use Rattle.model.specs.Image.{image}
 use Rattle.model.specs.Machine.{Outcome, Begun, began, written, stepped, restart, writeImage, startImage}
 use Rattle.model.specs.Trace.{Line, afterLines}
 use Rattle.model.specs.Demand.{noneTaken}
-use Rattle.model.specs.Checklist.{asksToSave, ListsAlike, switchedOn, SavedComesBack}
+use Rattle.model.specs.Checklist.{asksToSave, ListsAlike, startFrom, switchedOn, SavedComesBack}
 use Rattle.model.proofs.Ladder.Refusing.{step-fine, step-number, judged-refused, restart-fine, image-fine}
 use Rattle.model.proofs.Edits.Saving.{permanent-read, line-permanent}
 use Rattle.model.proofs.Histories.Untaken.{untaken-lines}
@@ -65,7 +65,7 @@ lists-alike st st′ w w′ e line b q asked =
 
 -- a start from the image that a well-formed state writes
 pub image-back : (st : State) → wellFormed st ≡ true → (b : List ℕ) → bufferLimit ≤ length b →
-    startImage (take (writeImage st b .count) (writeImage st b .buffer)) ≡ began (started (st .permanent)) 0
+    startFrom (writeImage st b) ≡ began (started (st .permanent)) 0
 unfolding short
 image-back st w b h =
     let m = st .permanent in

@@ -1,9 +1,10 @@
 -- Document 02 §7, proved: `finds-the-last`, `power-switch` and, of stored states, `stored-power-switch`.
 use Prim.Native.Nat.{ℕ, _≤_}
 use mathlib.Core.Path.{_≡_, refl, sym, ap, _∙_}
-use mathlib.Core.List.{List, [], _∷_, _++_}
+use mathlib.Core.List.{List, [], _∷_}
 use mathlib.Core.Bool.{true, cond, not}
-use borrow.Author.Tests.{le-ltb, lt-ltb, not-true}
+use mathlib.Core.Logic.{⊎-elim}
+use borrow.Author.Tests.{le-ltb, lt-ltb}
 use lib.ListN.{length, take}
 use Rattle.model.specs.Types.{StoredState}
 use Rattle.model.specs.Limits.{bufferLimit}
@@ -16,8 +17,8 @@ use Rattle.model.specs.Demand.{Start, factory-start, image-start, startS
 use Rattle.model.specs.Stored.{holds, stateOf, viewOf, memoryOf, Answered, ofOutcome, ofBegun}
 use Rattle.model.specs.Histories.{Returned, ReturnedAlone, standsAlone, RestartPromise, WritePromise, ImagePromise, Calls}
 use Rattle.model.specs.Histories as stored
-use Rattle.model.specs.PowerSwitch.{startMemory, saves, savedAfter, noneSaves, FindsTheLast, BringsBack, PowerSwitch, savedBy, StoredListsAs, StoredBringsBack, StoredPowerSwitch}
-use Rattle.model.proofs.Basics.{and-split}
+use Rattle.model.specs.PowerSwitch.{startMemory, saves, savedAfter, noneSaves, SavedLast, never, last, FindsTheLast, BringsBack, PowerSwitch, savedBy, StoredListsAs, StoredBringsBack, StoredPowerSwitch}
+use Rattle.model.proofs.Basics.{and-join, either}
 use Rattle.model.proofs.Views.{view-holds, view-is}
 use Rattle.model.proofs.Ladder.Refusing.{restart-fine, image-short, image-fine}
 use Rattle.model.proofs.Ladder.Exact.{start-some}
@@ -28,31 +29,22 @@ use Rattle.model.proofs.Histories.Stored.{line-promised, line-state, li
 
 -- ---- the walk finds the last accepted WPA
 
-saved-unsaved : (m : Memory) (st : State) (cs : List Call) → noneSaves st cs ≡ true → savedAfter m st cs ≡ m
-unfolding noneSaves savedAfter
-saved-unsaved m st [] e = refl
-saved-unsaved m st (c ∷ cs) e =
-    let h = and-split (not (saves st c)) (noneSaves (called st c) cs) e in
-    rw (not-true (saves st c) (h .0)) (saved-unsaved m (called st c) cs (h .1))
+saved-last : (first : Memory) (st : State) (cs : List Call) → SavedLast first st cs (savedAfter first st cs)
+unfolding noneSaves savedAfter afterCalls
+saved-last first st [] = never refl refl
+saved-last first st (c ∷ cs) = go (saved-last (cond (saves st c) (st .volatile) first) (called st c) cs)
+  where
+    -- where no later one is accepted, it is this one or none
+    none-later : (m : Memory) → noneSaves (called st c) cs ≡ true → m ≡ cond (saves st c) (st .volatile) first → SavedLast first st (c ∷ cs) m
+    none-later m n e =
+        ⊎-elim (λ s. last [] c cs refl s n (e ∙ rw s)) (λ s. never (and-join (ap not s) n) (e ∙ rw s)) (either (saves st c))
 
-saved-append : (m : Memory) (st : State) (before later : List Call) →
-    savedAfter m st (before ++ later) ≡ savedAfter (savedAfter m st before) (afterCalls st before) later
-unfolding savedAfter afterCalls
-saved-append m st [] later = refl
-saved-append m st (c ∷ cs) later = saved-append (cond (saves st c) (st .volatile) m) (called st c) cs later
-
-saved-last : (m : Memory) (st : State) (c : Call) (later : List Call) → saves st c ≡ true → noneSaves (called st c) later ≡ true →
-    savedAfter m st (c ∷ later) ≡ st .volatile
-unfolding savedAfter
-saved-last m st c later s n = rw s (saved-unsaved (st .volatile) (called st c) later n)
+    go : {m : Memory} → SavedLast (cond (saves st c) (st .volatile) first) (called st c) cs m → SavedLast first st (c ∷ cs) m
+    go {m} (never n e) = none-later m n e
+    go (last before d later whole s n e) = last (c ∷ before) d later (ap (λ (k : List Call). c ∷ k) whole) s n e
 
 pub finds-the-last : FindsTheLast
-finds-the-last =
-    record {
-      none-saved = λ start calls. saved-unsaved (startMemory start) (startState start) calls;
-      last-saved = λ start before c later s n.
-          saved-append (startMemory start) (startState start) before (c ∷ later) ∙ saved-last _ (afterCalls (startState start) before) c later s n;
-    }
+finds-the-last start calls = saved-last (startMemory start) (startState start) calls
 
 -- ---- the permanent memory is what the walk finds
 
@@ -82,7 +74,7 @@ module _ (st : State) (w : wellFormed st ≡ true) where
         fine = w;
         permanent = refl;
         restarts = restart-fine st w;
-        lists = λ then f e. lists-alike then (restart st .state) f (well-formed-kept .restarting st w)
+        lists = λ earlier f e. lists-alike earlier (restart st .state) f (well-formed-kept .restarting st w)
             (ap (λ (o : Begun). o .state .volatile) (restart-fine st w) ∙ sym e);
         short = λ b few. image-short st b w (lt-ltb (length b) bufferLimit few);
         written = λ b room. image-fine st b w (le-ltb (length b) bufferLimit room);
@@ -114,10 +106,10 @@ module _ (s : StoredState) (st : State) (h : viewOf s ≡ holds st) (m : Memory)
   restart-again r p = restart-promised s st h r p ∙ ap ofBegun (back .restarts)
 
   listed-again : (r : ReturnedAlone) → RestartPromise s r → StoredListsAs m (r .state)
-  listed-again r p then f e l b q asked a a′ promised promised′ =
-      let o = line-promised then (stateOf then) (view-holds then (f .shape)) l b a promised in
+  listed-again r p earlier f e l b q asked a a′ promised promised′ =
+      let o = line-promised earlier (stateOf earlier) (view-holds earlier (f .shape)) l b a promised in
       let o′ = line-promised (r .state) (restart st .state) (restart-state s st h r p) l b a′ promised′ in
-      let same = back .lists (stateOf then) (f .formed) e l b q asked in (
+      let same = back .lists (stateOf earlier) (f .formed) e l b q asked in (
         ap (λ (x : Answered). x .number) o′ ∙ same .0 ∙ sym (ap (λ (x : Answered). x .number) o),
         ap (λ (x : Answered). x .count) o′ ∙ same .1 ∙ sym (ap (λ (x : Answered). x .count) o),
         ap (λ (x : Answered). x .buffer) o′ ∙ same .2 ∙ sym (ap (λ (x : Answered). x .buffer) o),
@@ -147,5 +139,6 @@ module _ (s : StoredState) (st : State) (h : viewOf s ≡ holds st) (m : Memory)
 pub stored-power-switch : StoredPowerSwitch
 stored-power-switch start calls s₀ s begun history =
     let h₀ = begins-held begun in
+    let h = calls-held (startState start) h₀ history in
     let same = walks-alike (startMemory start) (startState start) h₀ history in
-    (same, rw same (stored-back s _ (calls-held (startState start) h₀ history) _ (power-switch start calls)))
+    record { stands = h; saved = same; back = rw same (stored-back s _ h _ (power-switch start calls)) }
