@@ -1,7 +1,6 @@
--- Document 02 §7, the power switch. The bench goes off without warning, after any call. What was last saved is found by a walk along the
--- calls, which looks at numbers and at the volatile memory, never at the permanent one; that the machine keeps just this, and has it back when it is switched on, is
--- what is claimed.
--- The statements only; they are proved in proofs/Histories/Switched.
+-- Document 02 §7, the power switch. The bench goes off without warning, after any call. What was last saved is found by a walk along the calls, which looks
+-- at their numbers and at the volatile memory, never at the permanent one. That the machine keeps just this, and has it back when it is switched on, is
+-- the claim. The statements only; they are proved in proofs/Histories/Switched.
 use Prim.Native.Nat.{_≤_, _<_}
 use mathlib.Core.Path.{_≡_}
 use Rattle.model.specs.Base.{ℕ, List, [], _∷_, _++_, Bool, true, false, cond, not, _&&_, eqb, length, take}
@@ -47,7 +46,7 @@ unfoldable pub noneSaves : State → List Call → Bool
 noneSaves st [] = true
 noneSaves st (c ∷ cs) = not (saves st c) && noneSaves (called st c) cs
 
--- [02 §7] m is the first memory, if no WPA was accepted; or the volatile memory when the last accepted one came
+-- [02 §7] m is the first memory, and no WPA was accepted; or one was, none after it, and m is the volatile memory when it came
 pub data SavedLast (first : Memory) (st : State) (calls : List Call) (m : Memory) : Type 0 where
   never : noneSaves st calls ≡ true → m ≡ first → SavedLast first st calls m
   last : (before : List Call) (c : Call) (later : List Call) → calls ≡ before ++ (c ∷ later) →
@@ -64,12 +63,13 @@ FindsTheLast = (start : Start) (calls : List Call) → SavedLast (startMemory st
 abbrev pub ListsAs : Memory → State → Type 0
 ListsAs m st = (earlier : State) → wellFormed earlier ≡ true → earlier .volatile ≡ m → ListsAlike earlier st
 
+-- [02 §7] what is so of a state
 pub record BringsBack (m : Memory) (st : State) : Type 0 where
   -- the state is well formed; so was the one that saved m, and its listings are among those compared below
   pub fine : wellFormed st ≡ true
   -- m is what it keeps
   pub permanent : st .permanent ≡ m
-  -- a restart sent next is accepted, and gives what a start with m gives
+  -- a restart sent next is accepted and gives what a start with m gives, and every listing is as it was
   pub restarts : restart st ≡ began (record { volatile = m; permanent = m; level = 0; error = 0 }) 0
   pub lists : ListsAs m (restart st .state)
   -- the image that can be written here is m's, and a start from the bytes written is that restart
@@ -96,6 +96,7 @@ StoredListsAs m s =
     (l b : List ℕ) (q : Query) → reading l ≡ asks (list q) → (r r′ : Returned) → LinePromise earlier l b r → LinePromise s l b r′ →
     (r′ .number ≡ r .number) × (r′ .count ≡ r .count) × (r′ .buffer ≡ r .buffer)
 
+-- [02 §7] what is so of a stored state, by what its calls promise
 pub record StoredBringsBack (m : Memory) (s : StoredState) : Type 0 where
   pub fine : FineState s
   pub permanent : memoryOf (s .permanent) ≡ m
