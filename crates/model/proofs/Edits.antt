@@ -1,4 +1,4 @@
--- Edits/: what each change leaves of a well-formed memory.
+-- Edits/: what each change leaves of a well-formed memory, and which calls reach the permanent one.
 pub mod Putting  -- a system put in its place, or last
 pub mod Defining  -- define, link and copy keep a memory well formed
 pub mod Enabling  -- enabling does
@@ -6,3 +6,4 @@ pub mod Removal  -- a removal: places move up, other chains go on without the sy
 pub mod Removing  -- a removal keeps a memory well formed
 pub mod RemovedChain  -- the chains after a removal, by name
 pub mod Removed  -- a removal mends every other chain
+pub mod Saving  -- the permanent memory, after each call

@@ -8,3 +8,4 @@ pub mod Under  -- the checklist: a system under the enabled one
 pub mod Saved  -- the checklist: save, switch off, switch on, list
 pub mod Checklist  -- all four
 pub mod Stored  -- demand 3 and the checklist of stored states
+pub mod Switched  -- document 02 §7: what the power switch brings back

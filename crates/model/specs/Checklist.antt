@@ -15,7 +15,7 @@ use Rattle.model.specs.Request.{Change, Query, Reading, reading, unknown
 use Rattle.model.specs.Effects.{withError}
 use Rattle.model.specs.Refusals.{ladder}
 use Rattle.model.specs.Reply.{listing, everySystem, enabledLine}
-use Rattle.model.specs.Machine.{Outcome, stepped, restart, writeImage, startImage}
+use Rattle.model.specs.Machine.{Outcome, Begun, stepped, restart, writeImage, startImage}
 use Rattle.model.specs.Trace.{Call, Line, afterCalls, afterLines}
 use Rattle.model.specs.Claims.{applies, triedBefore}
 use Rattle.model.specs.Demand.{Start, startState, noneTaken, Replies, Held, HeldPart, alone, pair, frames}
@@ -139,8 +139,11 @@ ListsAlike st st′ = (line b : List ℕ) (q : Query) → reading line ≡ asks 
     × (stepped st′ line b .buffer ≡ stepped st line b .buffer)
 
 -- a start from the bytes that a call wrote
+abbrev pub startFrom : Outcome → Begun
+startFrom o = startImage (take (o .count) (o .buffer))
+
 abbrev pub switchedOn : Outcome → State
-switchedOn o = startImage (take (o .count) (o .buffer)) .state
+switchedOn o = startFrom o .state
 
 -- st saved by an accepted WPA; then lines without another; then a restart, or an image written and a start from the bytes written
 pub record ComesBack (st : State) (later : State) : Type 0 where

@@ -1,7 +1,7 @@
 -- The machine of document 01, in the order of its paragraphs. A comment names the paragraph that a definition renders:
 -- [Memory 2] is the second paragraph of "Memory and state", [Poses] "Poses and chains", [A line], [Commands, KRM] the bullet that begins so,
 -- [lists] the paragraph "Lists run ..", [Error 9] the item, [Errors, end] the paragraph under the items, [Image], [Two lists 1], [ksrun],
--- [Empty programs, end] the paragraph under that table. Examples has sessions for each of them.
+-- [Empty programs, end] the paragraph under that table. Examples has sessions for each of them. [02 §7] is a request of document 02; PowerSwitch renders it.
 pub mod Base
 pub mod Types
 pub mod Ascii
@@ -32,4 +32,5 @@ pub mod Sessions
 pub mod Table
 pub mod Stored
 pub mod Histories
+pub mod PowerSwitch
 pub mod Examples

@@ -3,7 +3,6 @@ use Prim.Native.Nat.{ℕ, _≤_}
 use mathlib.Core.Path.{_≡_, refl, sym, ap, _∙_}
 use mathlib.Core.List.{List}
 use mathlib.Core.Bool.{Bool, true, false, cond}
-use native.Mathlib.Omega.{arith}
 use borrow.Author.Tests.{le-ltb, eqb-true}
 use lib.Dec.{eqb}
 use lib.ListN.{length, take, drop}
@@ -11,16 +10,16 @@ use lib.Seq.{take-append-seam}
 use Rattle.model.specs.Limits.{bufferLimit}
 use Rattle.model.specs.Memory.{State, started}
 use Rattle.model.specs.WellFormed.{wellFormed}
-use Rattle.model.specs.Request.{Query, Reading, reading, unknown, malformed, beyond, asks, change, list, lastError, define, link, copy, remove, enable, setLevel, save, restore, reset}
-use Rattle.model.specs.Effects.{changed, next}
+use Rattle.model.specs.Request.{Query, reading, asks, list}
 use Rattle.model.specs.Refusals.{short, refusal, ladder, requestLadder, readingLadder}
 use Rattle.model.specs.Reply.{listed}
 use Rattle.model.specs.Image.{image}
-use Rattle.model.specs.Machine.{Outcome, Begun, written, carriedOut, stepped, restart, writeImage, startImage}
+use Rattle.model.specs.Machine.{Outcome, Begun, began, written, stepped, restart, writeImage, startImage}
 use Rattle.model.specs.Trace.{Line, afterLines}
 use Rattle.model.specs.Demand.{noneTaken}
-use Rattle.model.specs.Checklist.{asksToSave, ListsAlike, switchedOn, SavedComesBack}
-use Rattle.model.proofs.Ladder.Refusing.{by-case, step-fine, step-number, judged-refused, restart-fine, image-fine}
+use Rattle.model.specs.Checklist.{asksToSave, ListsAlike, startFrom, switchedOn, SavedComesBack}
+use Rattle.model.proofs.Ladder.Refusing.{step-fine, step-number, judged-refused, restart-fine, image-fine}
+use Rattle.model.proofs.Edits.Saving.{permanent-read, line-permanent}
 use Rattle.model.proofs.Histories.Untaken.{untaken-lines}
 use Rattle.model.proofs.Ladder.Queries.{query-taken}
 use Rattle.model.proofs.Memories.Fine.{state-of}
@@ -28,32 +27,11 @@ use Rattle.model.proofs.Ladder.Exact.{start-some}
 use Rattle.model.proofs.Image.Exactly.{reads-back}
 use Rattle.model.proofs.Histories.Kept.{well-formed-kept}
 
--- ---- the permanent memory: set by an accepted WPA, and by nothing else
-
-permanent-read : (st : State) (r : Reading) (b : List ℕ) → carriedOut st r b .state .permanent ≡ cond (asksToSave r) (st .volatile) (st .permanent)
-unfolding carriedOut asksToSave next changed
-permanent-read st unknown b = refl
-permanent-read st malformed b = refl
-permanent-read st beyond b = refl
-permanent-read st (asks (change (define k n t u))) b = refl
-permanent-read st (asks (change (link n d))) b = refl
-permanent-read st (asks (change (copy s d))) b = refl
-permanent-read st (asks (change (remove n))) b = refl
-permanent-read st (asks (change (enable n))) b = refl
-permanent-read st (asks (change (setLevel n))) b = refl
-permanent-read st (asks (change save)) b = refl
-permanent-read st (asks (change restore)) b = refl
-permanent-read st (asks (change reset)) b = refl
-permanent-read st (asks (list q)) b = refl
-permanent-read st (asks lastError) b = refl
+-- ---- the permanent memory, from one save to the next
 
 saved-line : (st : State) (line b : List ℕ) → asksToSave (reading line) ≡ true → stepped st line b .number ≡ 0 →
     stepped st line b .state .permanent ≡ st .volatile
-saved-line st line b s =
-    by-case st line b (λ o. o .number ≡ 0 → o .state .permanent ≡ st .volatile)
-    (λ w z. absurd (omega arith))
-    (λ n h h′ z. absurd (omega arith))
-    (λ w z e. permanent-read st (reading line) b ∙ rw s)
+saved-line st line b s z = line-permanent st line b ∙ rw (s, z)
 
 unsaved-lines : (st : State) (cs : List Line) → noneTaken asksToSave st cs ≡ true → afterLines st cs .permanent ≡ st .permanent
 unsaved-lines = untaken-lines asksToSave (λ st. st .permanent) (λ st n. refl) (λ st line b w z e. permanent-read st (reading line) b ∙ rw e)
@@ -75,7 +53,7 @@ module _ (line b : List ℕ) (q : Query) (asked : reading line ≡ asks (list q)
       let o = step-fine st line b w ∙ judged-refused st (refusal st line b) (reading line) b e in
       (ap (λ (o : Outcome). o .count) o, ap (λ (o : Outcome). o .buffer) o)
 
-lists-alike : (st st′ : State) → wellFormed st ≡ true → wellFormed st′ ≡ true → st′ .volatile ≡ st .volatile → ListsAlike st st′
+pub lists-alike : (st st′ : State) → wellFormed st ≡ true → wellFormed st′ ≡ true → st′ .volatile ≡ st .volatile → ListsAlike st st′
 lists-alike st st′ w w′ e line b q asked =
     let n = query-number line b q asked st st′ e in
     let t = eqb (refusal st line b) 0 in
@@ -85,15 +63,15 @@ lists-alike st st′ w w′ e line b q asked =
 
 -- ---- back
 
--- an image written and read again, of a well-formed state
-image-back : (st : State) → wellFormed st ≡ true → (b : List ℕ) → bufferLimit ≤ length b →
-    switchedOn (writeImage st b) ≡ started (st .permanent)
+-- a start from the image that a well-formed state writes
+pub image-back : (st : State) → wellFormed st ≡ true → (b : List ℕ) → bufferLimit ≤ length b →
+    startFrom (writeImage st b) ≡ began (started (st .permanent)) 0
 unfolding short
 image-back st w b h =
     let m = st .permanent in
     let o = image-fine st b w (le-ltb (length b) bufferLimit h) in
     let t : take (writeImage st b .count) (writeImage st b .buffer) ≡ image m = rw o (take-append-seam (image m) (drop (length (image m)) b)) in
-    ap (λ (bs : List ℕ). startImage bs .state) t ∙ ap (λ (o : Begun). o .state) (start-some (image m) m (reads-back m (state-of st w .permanent)))
+    ap startImage t ∙ start-some (image m) m (reads-back m (state-of st w .permanent))
 
 pub saved-comes-back : (st : State) → wellFormed st ≡ true → SavedComesBack st
 saved-comes-back st w line b s z later none =
@@ -104,7 +82,7 @@ saved-comes-back st w line b s z later none =
     let kept : end .permanent ≡ st .volatile = unsaved-lines after later none ∙ saved-line st line b s z in
     let back : restart end .state .volatile ≡ st .volatile = ap (λ (o : Begun). o .state .volatile) (restart-fine end w₂) ∙ kept in
     let again : (c : List ℕ) → bufferLimit ≤ length c → switchedOn (writeImage end c) .volatile ≡ st .volatile =
-    λ c h. ap (λ (s : State). s .volatile) (image-back end w₂ c h) ∙ kept in
+    λ c h. ap (λ (o : Begun). o .state .volatile) (image-back end w₂ c h) ∙ kept in
     record {
       memory = back;
       lists = lists-alike st (restart end .state) w (well-formed-kept .restarting end w₂) back;

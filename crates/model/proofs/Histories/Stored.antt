@@ -12,11 +12,11 @@ use Rattle.model.specs.Limits.{bufferLimit}
 use Rattle.model.specs.Memory.{State}
 use Rattle.model.specs.Request.{reading}
 use Rattle.model.specs.Reply.{listing, everySystem, resultantLine}
-use Rattle.model.specs.Machine.{answered, stepped, restart}
+use Rattle.model.specs.Machine.{answered, stepped, restart, writeImage}
 use Rattle.model.specs.Trace.{Call, Line, called, afterCalls, afterLines}
 use Rattle.model.specs.Demand.{Start, startState, asksToEnable, noneTaken, steady, Replies}
-use Rattle.model.specs.Stored.{holds, stateOf, viewOf, Answered, Restarted, ofOutcome, lineAnswer, restartAnswer}
-use Rattle.model.specs.Histories.{Returned, ReturnedAlone, standsFor, LinePromise, RestartPromise, Begins, at-factory, at-image, Calls, Lines, steadyBy, Stands, KltPrints, StoredDemand3, StoredChecklist}
+use Rattle.model.specs.Stored.{holds, stateOf, viewOf, Answered, Restarted, ofOutcome, ofBegun, lineAnswer, imageAnswer, restartAnswer}
+use Rattle.model.specs.Histories.{Returned, ReturnedAlone, standsFor, standsAlone, LinePromise, RestartPromise, WritePromise, Begins, at-factory, at-image, Calls, Lines, steadyBy, Stands, KltPrints, StoredDemand3, StoredChecklist}
 use Rattle.model.specs.Histories as stored
 use Rattle.model.proofs.Histories.Demand3.{demand-3}
 use Rattle.model.proofs.Histories.Checklist.{checklist}
@@ -31,28 +31,35 @@ stands s st e = e ∙ ap holds (sym (view-is s st e .1))
 -- ---- one call
 
 module _ (s : StoredState) (st : State) (h : viewOf s ≡ holds st) where
-  line-promised : (l b : List ℕ) (r : Returned) → LinePromise s l b r → standsFor r ≡ ofOutcome (stepped st l b)
+  pub line-promised : (l b : List ℕ) (r : Returned) → LinePromise s l b r → standsFor r ≡ ofOutcome (stepped st l b)
   unfolding lineAnswer
   line-promised l b r p = p ∙ rw h
 
-  line-state : (l b : List ℕ) (r : Returned) → LinePromise s l b r → viewOf (r .state) ≡ holds (stepped st l b .state)
+  pub line-state : (l b : List ℕ) (r : Returned) → LinePromise s l b r → viewOf (r .state) ≡ holds (stepped st l b .state)
   line-state l b r p = ap (λ (a : Answered). a .state) (line-promised l b r p)
 
-  line-number : (l b : List ℕ) (r : Returned) → LinePromise s l b r → r .number ≡ stepped st l b .number
+  pub line-number : (l b : List ℕ) (r : Returned) → LinePromise s l b r → r .number ≡ stepped st l b .number
   line-number l b r p = ap (λ (a : Answered). a .number) (line-promised l b r p)
 
-  restart-state : (r : ReturnedAlone) → RestartPromise s r → viewOf (r .state) ≡ holds (restart st .state)
+  pub restart-promised : (r : ReturnedAlone) → RestartPromise s r → standsAlone r ≡ ofBegun (restart st)
   unfolding restartAnswer
-  restart-state r p = ap (λ (a : Restarted). a .state) p ∙ rw h
+  restart-promised r p = p ∙ rw h
+
+  pub restart-state : (r : ReturnedAlone) → RestartPromise s r → viewOf (r .state) ≡ holds (restart st .state)
+  restart-state r p = ap (λ (a : Restarted). a .state) (restart-promised r p)
+
+  pub write-promised : (b : List ℕ) (r : Returned) → WritePromise s b r → standsFor r ≡ ofOutcome (writeImage st b)
+  unfolding imageAnswer
+  write-promised b r p = p ∙ rw h
 
 -- ---- lists of calls
 
-begins-held : {start : Start} {s : StoredState} → Begins start s → viewOf s ≡ holds (startState start)
+pub begins-held : {start : Start} {s : StoredState} → Begins start s → viewOf s ≡ holds (startState start)
 unfolding startState
 begins-held (at-factory s e) = e
 begins-held (at-image bytes m e r p) = ap (λ (a : Restarted). a .state) p
 
-calls-held : {s s′ : StoredState} {cs : List Call} (st : State) → viewOf s ≡ holds st → Calls s cs s′ → viewOf s′ ≡ holds (afterCalls st cs)
+pub calls-held : {s s′ : StoredState} {cs : List Call} (st : State) → viewOf s ≡ holds st → Calls s cs s′ → viewOf s′ ≡ holds (afterCalls st cs)
 unfolding afterCalls called
 calls-held st h (stored.none s) = h
 calls-held st h (stored.then-line s s′ l b r cs p rest) = calls-held (stepped st l b .state) (line-state s st h l b r p) rest

@@ -10,10 +10,12 @@ use Rattle.model.specs.Examples.Numbers.{OfNumbers}
 use Rattle.model.specs.Examples.Images.{OfImages}
 use Rattle.model.specs.Examples.Histories.{OfHistories}
 use Rattle.model.specs.Examples.Storage.{OfStorage}
+use Rattle.model.specs.Demand.{changesEnabled, asksToEnable, noneTaken}
+use Rattle.model.specs.Histories.{steadyBy}
 use Rattle.model.proofs.Open.{definitions-open}
 
 unfoldable sessions-open : Unit {0}
-unfolding hexSpelled hex sent comes otherwise memoryShaped shaped viewOf lineAnswer imageAnswer restartAnswer definitions-open
+unfolding hexSpelled hex sent comes otherwise memoryShaped shaped viewOf lineAnswer imageAnswer restartAnswer changesEnabled asksToEnable noneTaken steadyBy definitions-open
 sessions-open = tt
 
 of-memories : OfMemories
@@ -84,7 +86,17 @@ of-images = record { writing = refl; starting = refl; refused-forms = refl; refu
 
 of-histories : OfHistories
 unfolding sessions-open
-of-histories = record { still = refl; prints = refl }
+of-histories =
+    record {
+      still = refl;
+      steady-lines = refl;
+      steady-not = refl;
+      steady-numbers = refl;
+      steady-numbers-not = refl;
+      prints = refl;
+      switched = refl;
+      saved-again = refl;
+    }
 
 of-storage : OfStorage
 unfolding sessions-open
