@@ -23,7 +23,7 @@ lent-long = rw (length-replicate {A = ℕ} bufferLimit 0) (omega arith)
 -- ---- of a line that is too long, one byte too many tells all
 
 pub clips : Clips answering
-clips st p = ap {B = Answer State} (λ (s : Seen). record { state = s .state; text = s .text }) (clipped st p lent lent-long)
+clips st p = ap {B = Answer State ℕ} (λ (s : Seen). record { state = s .state; text = s .text }) (clipped st p lent lent-long)
 
 -- ---- the buffer that is lent again does not show
 

@@ -22,7 +22,7 @@ abbrev pub said : State → List ℕ → List ℕ
 said st l = printed (outcome st l)
 
 -- the machine: a line, its next state, and what is printed
-abbrev pub answering : Lines.Machine State
+abbrev pub answering : Lines.Machine State ℕ
 answering = record { answer = λ st l. record { state = outcome st l .state; text = said st l }; limit = lineLimit }
 
 -- between two blocks: the state, and what is kept of the unfinished line
@@ -30,7 +30,7 @@ abbrev pub Held : Type 0
 Held = Lines.Held State
 
 abbrev pub Fed : Type 0
-Fed = Lines.Fed State
+Fed = Lines.Fed State ℕ
 
 -- of a line that is too long, one byte too many is enough
 abbrev pub enough : ℕ
