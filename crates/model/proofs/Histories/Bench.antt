@@ -200,7 +200,9 @@ begins (image-start bytes m e) = ap (λ (o : Begun). began (o .state) (o .number
 start-fresh : (start : Start) → startState start ≡ started (startState start .permanent)
 unfolding startState
 start-fresh factory-start = refl
-start-fresh (image-start bytes m e) = rw (start-some bytes m e) refl
+start-fresh (image-start bytes m e) =
+    let s = ap (λ (o : Begun). o .state) (start-some bytes m e) in
+    s ∙ ap (λ (st : State). started (st .permanent)) (sym s)
 
 module _ (x : Bool) (start : Start) (b : List ℕ) (ls : List (List ℕ)) where
   abbrev cs : List Call
