@@ -30,13 +30,13 @@ loop-again : tie.Need-loop-again Inv-loop μ-loop
 loop-again c = (search needs, search needs, c .before .before .before .before .serve .ensures .between)
 
 -- the last answer lies in its buffer
-written-within : (k : tie.After-finish Inv-loop μ-loop) → k .finish .result ≤ length (k .finish .last .1 .0)
+written-within : (k : tie.After-finish Inv-loop μ-loop) → k .finish .result .written ≤ length (k .finish .last .1 .1 .0)
 written-within k =
-    let e : 65536 ≡ length (k .finish .last .1 .0) = search needs in
-    omega (arith, e, k .finish .ensures .room, k .before .before .before .loop .inv .1)
+    let e : 65536 ≡ length (k .finish .last .1 .1 .0) = search needs in
+    omega (arith, e, k .finish .ensures .room, k .before .before .before .before .loop .inv .1)
 
 finish-requires : tie.Need-finish-requires Inv-loop μ-loop
-finish-requires c κs = let l = c .before .before .loop in (l .inv .2 .fine, (l .inv .2 .few, omega (arith, l .inv .1)))
+finish-requires c κs = let l = c .before .before .before .loop in (l .inv .2 .fine, (l .inv .2 .few, omega (arith, l .inv .1)))
 
 array-share-prefix-output : tie.Need-array-share-prefix-output Inv-loop μ-loop
 array-share-prefix-output c = written-within (c .before)
@@ -73,6 +73,7 @@ run-spec =
     (λ c. search needs)
     (λ c. search needs)
     loop-again
+    (λ c κs. search needs)
     (λ c. search needs)
     finish-requires
     array-share-prefix-output
