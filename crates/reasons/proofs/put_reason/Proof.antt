@@ -28,15 +28,15 @@ put-text-requires c κs =
 
 put-words-requires : tie.Need-put-words-requires
 put-words-requires c κs =
-    let start = c .before .before .before .before .before .before .before .before .before .before in
-    let v = c .before .before .before .before .before .before .before .put-decimal .ensures in
+    let start = c .before .before .before .before .before .before .before .before .before .before .before in
+    let v = c .before .before .before .before .before .before .before .before .put-decimal .ensures in
     let w = c .before .before .before .put-text .ensures in
     rw (w .bytes, length-over, v .bytes, length-over) (omega (arith, v .place, w .place, digits start, start .pre))
 
 put-byte-requires : tie.Need-put-byte-requires
 put-byte-requires c κs =
-    let start = c .before .before .before .before .before .before .before .before .before .before .before .before .before .before in
-    let u = c .before .before .before .before .before .before .before .before .before .before .before .put-decimal .ensures in
+    let start = c .before .before .before .before .before .before .before .before .before .before .before .before .before .before .before in
+    let u = c .before .before .before .before .before .before .before .before .before .before .before .before .put-decimal .ensures in
     let v = c .before .before .before .before .before .before .before .put-text .ensures in
     let w = c .before .before .before .put-words .ensures in
     rw (w .bytes, length-over, v .bytes, length-over, u .bytes, length-over)
@@ -44,7 +44,7 @@ put-byte-requires c κs =
 
 returns : tie.Need-returns
 returns c =
-    let u = c .before .before .before .before .before .before .before .before .before .before .before .before .before .before .put-decimal .ensures in
+    let u = c .before .before .before .before .before .before .before .before .before .before .before .before .before .before .before .put-decimal .ensures in
     let v = c .before .before .before .before .before .before .before .before .before .before .put-text .ensures in
     let w = c .before .before .before .before .before .before .put-words .ensures in
     wrote-then u (wrote-then v (wrote-then w (c .before .before .put-byte .ensures)))
