@@ -12,8 +12,8 @@ ghost use Prim.Native.Nat.{_≤_};
 ghost use lib.ListN.{length};
 ghost use Rattle.model.specs.Limits.{bufferLimit};
 ghost use Rattle.session.specs.Feed.{ended};
-ghost use Rattle.session.specs.Blocks.{heldOf};
-ghost use Rattle.console.specs.Serve.{given, Between, Serves};
+ghost use Rattle.session.specs.Blocks.{heldOf, Between};
+ghost use Rattle.console.specs.Serve.{given, Serves};
 
 // What a block left: the session, and whether its answers could be written.
 struct Served {

@@ -43,11 +43,15 @@ nothing = record { store = false; reason = 0 }
 abbrev pub dueAfter : Manner → State → List ℕ → Due
 dueAfter k st l = record { store = dueStore k st l lent; reason = dueReason k st l lent }
 
+-- a session between two blocks
+pub record Between (s : Session) : Type 0 where
+  pub fine : FineState (s .state)
+  pub few : s .held .count ≤ enough
+
 -- a session that begins
 pub record Begins (s : Session) : Type 0 where
   pub held : heldOf s ≡ holding startFactory []
-  pub few : s .held .count ≤ enough
-  pub fine : FineState (s .state)
+  pub between : Between s
 
 -- so many bytes of answer stand in the buffer: those of a reply as they were, or those of a refusal
 pub record Says (number count : ℕ) (before after : List ℕ) (n : ℕ) : Type 0 where

@@ -51,13 +51,19 @@ fn nothing_held() -> Kept
     }
 }
 
-// A session begins at the factory, with nothing held.
+// A session begins with nothing held.
+pub fn begin_from(state: State) -> Session
+    ensures { λ r. ⌜ (r .state ≡ state) × (r .held .count ≡ 0) ⌝ }
+{
+    let held = nothing_held();
+    Session { state, held }
+}
+
+// ksrun's begins at the factory.
 pub fn begin() -> Session
     ensures { λ r. ⌜ Begins r ⌝ }
 {
-    let state = machine::start_factory();
-    let held = nothing_held();
-    Session { state, held }
+    begin_from(machine::start_factory())
 }
 
 // The reply as it is, or E and the number.

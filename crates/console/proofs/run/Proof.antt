@@ -6,7 +6,7 @@ use borrow.Author.Needs.{needs}
 use lib.ListN.{length}
 use lib.Seq.{length-take-le}
 use Rattle.session.proofs.Rest.{replied-first}
-use Rattle.console.specs.Serve.{Between}
+use Rattle.session.specs.Blocks.{Between}
 use Rattle.console.proofs.run.Statement.{statement}
 use Rattle.console.proofs.run.Tie as tie
 
@@ -19,7 +19,7 @@ abbrev μ-loop : tie.MeasureT-loop
 
 loop-holds : tie.Need-loop-holds Inv-loop μ-loop
 loop-holds c =
-    (c .before .before .large-buffer .ensures, c .before .large-buffer2 .ensures, record { fine = c .begin .ensures .fine; few = c .begin .ensures .few })
+    (c .before .before .large-buffer .ensures, c .before .large-buffer2 .ensures, c .begin .ensures .between)
 
 serve-requires : tie.Need-serve-requires Inv-loop μ-loop
 serve-requires c κs =

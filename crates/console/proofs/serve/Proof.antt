@@ -8,8 +8,8 @@ use lib.ListN.{length, take}
 use lib.Seq.{length-take-le, take-all}
 use Rattle.model.proofs.Basics.{true-false}
 use Rattle.lines.proofs.Places.{rest-long}
-use Rattle.session.specs.Blocks.{heldOf}
-use Rattle.console.specs.Serve.{given, Between}
+use Rattle.session.specs.Blocks.{heldOf, Between}
+use Rattle.console.specs.Serve.{given}
 use Rattle.console.proofs.Serving.{given-nothing, part-handed, part-held}
 use Rattle.console.proofs.serve.Statement.{statement}
 use Rattle.console.proofs.serve.Tie as tie
