@@ -22,7 +22,8 @@ ghost use Rattle.io.specs.Counts.{Counts};
 ghost use Rattle.store.specs.Mark.{Short, Marked, longestNumber};
 ghost use Rattle.store.specs.declared.mark.Mark.{Mark as Mark};
 
-// How often an empty lock is read: its maker writes the mark at once, but perhaps not before it is read here.
+// How often a lock is looked at again that may be on its way: an empty one, whose maker writes its mark at once, but perhaps not before it is read here; and
+// one whose maker is just being ended. Some tenths of a second in all.
 const TURNS: u32 = 100000;
 
 // The lock is held, by this descriptor; another program has it, and a complaint was made; or no lock can be made here, and then no file can be saved either.
@@ -116,6 +117,25 @@ fn maker_of(process: &[u8], number: &[u8], fd: i32) -> Maker
     compared(process, number, &path[..n])
 }
 
+// The same, after some patience: a program that was killed a moment ago may not have ended yet.
+fn maker_after_all(process: &[u8], number: &[u8], fd: i32) -> Maker
+    requires { ⌜ Short (now process) (now number) ⌝ }
+{
+    let mut turns = TURNS;
+    while 0 < turns {
+        let found = maker_of(process, number, fd);
+        match found {
+            Maker::Runs => {
+                libc::sched_yield();
+            }
+            Maker::Gone => return Maker::Gone,
+            Maker::Unknown => return Maker::Unknown,
+        }
+        turns -= 1;
+    }
+    Maker::Runs
+}
+
 // The lock's bytes: an empty one is read again for a while.
 fn read_lock(fd: i32, out: &mut [u8]) -> usize
     ensures { λ r. ⌜ Counts r (now (out .exit)) ⌝ }
@@ -138,7 +158,7 @@ fn marked_left(path: &[u8], mark: &[u8], a: usize, b: usize, fd: i32) -> bool
     requires { ⌜ Marked (now mark) (Mark.Ends a b) ⌝ }
 {
     let from = a + 1;
-    let found = maker_of(&mark[..a], &mark[from..b], fd);
+    let found = maker_after_all(&mark[..a], &mark[from..b], fd);
     match found {
         Maker::Runs => {
             complain_taken(path, &mark[..a]);

@@ -7,11 +7,11 @@ use borrow.Author.Needs.{needs}
 use Rattle.store.proofs.hold.marked_left.Statement.{statement}
 use Rattle.store.proofs.hold.marked_left.Tie as tie
 
-slice-aggregate-maker-of : tie.Need-slice-aggregate-maker-of
-slice-aggregate-maker-of c = sym (length-take-le _ _ (omega (arith, c .before .before .before .pre)))
+slice-aggregate-maker-after-all : tie.Need-slice-aggregate-maker-after-all
+slice-aggregate-maker-after-all c = sym (length-take-le _ _ (omega (arith, c .before .before .before .pre)))
 
-maker-of-requires : tie.Need-maker-of-requires
-maker-of-requires c κs =
+maker-after-all-requires : tie.Need-maker-after-all-requires
+maker-after-all-requires c κs =
     let st = c .before .before .before .before in
     record {
       process-short = rw length-take (omega (arith, st .pre));
@@ -26,11 +26,11 @@ marked-left-spec =
     tie.close
     (tie.spec
     (λ c. search needs)
-    slice-aggregate-maker-of
+    slice-aggregate-maker-after-all
     (λ c. search needs)
     (λ c. search needs)
     (λ c. search needs)
-    maker-of-requires
+    maker-after-all-requires
     (λ c. search needs)
     slice-aggregate-complain-taken
     (λ c κs. search needs)
