@@ -23,7 +23,7 @@ use Rattle.engine.specs.declared.answer.Stepped.{Stepped}
 use Rattle.engine.specs.Answers.{returned}
 use Rattle.lines.specs.Feed.{Fed}
 use Rattle.lines.proofs.Feeding.{fed-nothing}
-use Rattle.lines.proofs.Places.{rest, rest-used, fed-part}
+use Rattle.lines.proofs.Places.{rest, rest-used, fed-more, fed-part}
 use Rattle.session.specs.Feed.{acting, fed, ended, endedActs}
 use Rattle.session.specs.Blocks.{heldOf, mannerOf, withDue, Feeds, Ends}
 use Rattle.session.specs.declared.due.Manner.{Manner}
@@ -32,7 +32,7 @@ use Rattle.session.specs.declared.feed.Session.{Session}
 use Rattle.session.specs.declared.feed.Fed.{Fed as StoredFed}
 use Rattle.session.specs.declared.feed.Answer.{Answer}
 use Rattle.session.proofs.Rest.{replied-first}
-use Rattle.bench.specs.Serve.{given, handed, Imaged}
+use Rattle.bench.specs.Serve.{given, outgoing, Imaged}
 
 -- ---- the image
 
@@ -60,9 +60,9 @@ unfolding storedActs
 stored-as true st bytes e = ap (λ (i : List ℕ). stores i ∷ []) (sym (e refl))
 stored-as false st bytes e = refl
 
--- what is due is what is handed out
-due-handed : (answers : List ℕ) (d : Due) (s : StoredState) (buffer : List ℕ) (n : ℕ) → Imaged d s buffer n → withDue answers d s ≡ handed answers d (take n buffer)
-due-handed answers d s buffer n i =
+-- what is due is what goes out
+due-out : (answers : List ℕ) (d : Due) (s : StoredState) (buffer : List ℕ) (n : ℕ) → Imaged d s buffer n → withDue answers d s ≡ outgoing answers d (take n buffer)
+due-out answers d s buffer n i =
     ap (λ (x : List Act). map prints answers ++ (x ++ reasonActs (d .reason))) (stored-as (d .store) (stateOf s) (take n buffer) (i .bytes))
 
 -- ---- before the first byte
@@ -80,13 +80,22 @@ module _ (k : Manner) (s : Session) (block : List ℕ) (t : Session) (at : ℕ) 
   used : take (f .used) (rest block at) ≡ part
   used = rest-used block at (f .used) end (feeds .within) e
 
-  -- its acts are what is handed out: the answers in the buffer, and what is due behind them
-  pub part-handed : (buffer : List ℕ) (n : ℕ) → Imaged (f .due) (f .session .state) buffer n →
-      given k t part .output ≡ handed (take (f .written) after) (f .due) (take n buffer)
-  part-handed buffer n i =
+  -- its acts are what goes out: the answers in the buffer, and what is due behind them
+  part-out : (buffer : List ℕ) (n : ℕ) → Imaged (f .due) (f .session .state) buffer n →
+      given k t part .output ≡ outgoing (take (f .written) after) (f .due) (take n buffer)
+  part-out buffer n i =
       ap (λ (p : List ℕ). given k t p .output) (sym used) ∙ ap (λ (x : Fed State Act). x .output) (feeds .acts)
       ∙ ap (λ (a : List ℕ). withDue a (f .due) (f .session .state)) (sym (replied-first (feeds .puts)))
-      ∙ due-handed (take (f .written) after) (f .due) (f .session .state) buffer n i
+      ∙ due-out (take (f .written) after) (f .due) (f .session .state) buffer n i
+
+  -- so up to its end the acts are those before it, and then these
+  pub part-handed : (buffer : List ℕ) (n : ℕ) → Imaged (f .due) (f .session .state) buffer n →
+      given k s (take end block) .output ≡ given k s (take at block) .output ++ outgoing (take (f .written) after) (f .due) (take n buffer)
+  part-handed buffer n i =
+      let to : at + (end - at) ≡ end = omega arith in
+      ap (λ (x : Fed State Act). x .output) (ap (λ (j : ℕ). given k s (take j block)) (sym to)
+      ∙ fed-more (acting (mannerOf k)) (heldOf s .state) (heldOf s .line) block at (heldOf t .state) (heldOf t .line) (sym held) (end - at))
+      ∙ ap (λ (x : List Act). given k s (take at block) .output ++ x) (part-out buffer n i)
 
   -- and the session after it holds what s gives up to there
   pub part-held : heldOf (f .session) ≡ given k s (take end block) .held
@@ -97,7 +106,7 @@ module _ (k : Manner) (s : Session) (block : List ℕ) (t : Session) (at : ℕ) 
 -- ---- the end of the input
 
 pub last-handed : (k : Manner) (s : Session) (before after : List ℕ) (r : Answer) → Ends k s before after r → (buffer : List ℕ) (n : ℕ) →
-    Imaged (r .due) (r .state) buffer n → endedActs (mannerOf k) (heldOf s) ≡ handed (take (r .written) after) (r .due) (take n buffer)
+    Imaged (r .due) (r .state) buffer n → endedActs (mannerOf k) (heldOf s) ≡ outgoing (take (r .written) after) (r .due) (take n buffer)
 last-handed k s before after r ends buffer n i =
     ends .acts ∙ ap (λ (a : List ℕ). withDue a (r .due) (r .state)) (sym (replied-first (ends .puts)))
-    ∙ due-handed (take (r .written) after) (r .due) (r .state) buffer n i
+    ∙ due-out (take (r .written) after) (r .due) (r .state) buffer n i

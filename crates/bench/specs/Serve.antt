@@ -15,22 +15,28 @@ use Rattle.session.specs.Blocks.{heldOf, mannerOf, Between}
 use Rattle.session.specs.declared.due.Manner.{Manner}
 use Rattle.session.specs.declared.due.Due.{Due}
 use Rattle.session.specs.declared.feed.Session.{Session}
+use Rattle.bench.specs.declared.edge.Handed.{Handed}
 use Rattle.bench.specs.declared.serve.Served.{Served}
 
 -- [ksbench] what a session gives for the next bytes of its input: its acts, and what it holds then
 abbrev pub given : Manner → Session → List ℕ → Fed State Act
 given k s part = fedActs (mannerOf k) (heldOf s .state) (heldOf s .line) part
 
--- what is handed out, in this order: bytes of answers, an image where one is to be stored, a reason where one is to be told
-abbrev pub handed : List ℕ → Due → List ℕ → List Act
-handed answers d bytes = map prints answers ++ (cond (d .store) (stores bytes ∷ []) [] ++ reasonActs (d .reason))
+-- what goes out, in this order: bytes of answers, an image where one is to be stored, a reason where one is to be told
+abbrev pub outgoing : List ℕ → Due → List ℕ → List Act
+outgoing answers d bytes = map prints answers ++ (cond (d .store) (stores bytes ∷ []) [] ++ reasonActs (d .reason))
 
 -- the first n bytes of a buffer are the image that is to be stored, if one is
 pub record Imaged (d : Due) (s : StoredState) (buffer : List ℕ) (n : ℕ) : Type 0 where
   pub within : n ≤ length buffer
   pub bytes : d .store ≡ true → take n buffer ≡ image (stateOf s .permanent)
 
--- a block was served: if all could be done, the session holds what it gives for the whole block
+-- what was due up to a place was handed out, and the receipt says so
+pub record Hands (end : ℕ) (r : Handed) : Type 0 where
+  pub place : r .ok ≡ true → r .receipt .at ≡ end
+
+-- a block was served: if all could be done, the session holds what it gives for the whole block, and the receipt is for all of it
 pub record Serves (k : Manner) (s : Session) (block : List ℕ) (r : Served) : Type 0 where
   pub held : r .ok ≡ true → heldOf (r .session) ≡ given k s block .held
+  pub handed : r .ok ≡ true → r .receipt .at ≡ length block
   pub between : Between (r .session)

@@ -99,7 +99,9 @@ pub fn run_on(name: &[u8]) {
 
 pub fn run() {
     if os::arg_count() != 2 {
-        say(b"usage: ksbench IMAGE    (IMAGE: the file that keeps the saved coordinate systems; it is made at the first save)\n");
+        say(
+            b"usage: ksbench IMAGE    (IMAGE: the file that keeps the saved coordinate systems; it is made at the first save)\n",
+        );
         return;
     }
     let mut name = io::buffer();

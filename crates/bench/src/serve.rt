@@ -1,6 +1,8 @@
 // A block of input, and its end: fed to the session until something is due, which is handed out before the next line is answered.
+use crate::edge::Receipt;
 use crate::edge::hand_out_last;
 use crate::edge::hand_out_part;
+use crate::edge::nothing_handed;
 use model::State;
 use session::due::Due;
 use session::due::Manner;
@@ -14,9 +16,10 @@ ghost use Rattle.model.specs.Stored.{FineState};
 ghost use Rattle.session.specs.Blocks.{Between};
 ghost use Rattle.bench.specs.Serve.{Imaged, Serves};
 
-// What a block left: the session, and whether all that was due could be done.
+// What a block left: the session, the receipt for what was handed out, and whether all that was due could be done.
 pub struct Served {
     pub session: Session,
+    pub receipt: Receipt,
     pub ok: bool,
 }
 
@@ -34,13 +37,21 @@ fn put_image(due: Due, s: State, out: &mut [u8]) -> usize
 }
 
 // A block is fed until all of it is used. out takes answers, and image an image.
-pub fn serve(k: Manner, s: Session, path: &[u8], block: &[u8], out: &mut [u8], image: &mut [u8]) -> Served
+pub fn serve(
+    k: Manner,
+    s: Session,
+    path: &[u8],
+    block: &[u8],
+    out: &mut [u8],
+    image: &mut [u8],
+) -> Served
     requires { ⌜ Between s ⌝ }
     requires { ⌜ bufferLimit ≤ length (now out) ⌝ }
     requires { ⌜ bufferLimit ≤ length (now image) ⌝ }
     ensures { λ r. ⌜ Serves k s (now (block .entry)) r ⌝ }
 {
     let mut session = s;
+    let mut receipt = nothing_handed();
     let mut at = 0;
     while at < block.len() {
         let f = feed(k, session, &block[at..], out);
@@ -50,13 +61,33 @@ pub fn serve(k: Manner, s: Session, path: &[u8], block: &[u8], out: &mut [u8], i
         let after = f.session;
         let state = after.state;
         let size = put_image(due, state, image);
-        if !hand_out_part(k, session, &block[at..end], path, &out[..written], due, &image[..size]) {
-            return Served { session, ok: false };
+        let handed = hand_out_part(
+            k,
+            s,
+            block,
+            receipt,
+            end,
+            path,
+            &out[..written],
+            due,
+            &image[..size],
+        );
+        receipt = handed.receipt;
+        if !handed.ok {
+            return Served {
+                session,
+                receipt,
+                ok: false,
+            };
         }
         session = after;
         at = end;
     }
-    Served { session, ok: true }
+    Served {
+        session,
+        receipt,
+        ok: true,
+    }
 }
 
 // The end of the input.

@@ -48,7 +48,10 @@ fn start_found(path: &[u8], bytes: &[u8]) -> Started
 {
     let started = start_from(bytes);
     if !started.ok {
-        complain(path, b"refused (14): it is no image; the file is left as it is");
+        complain(
+            path,
+            b"refused (14): it is no image; the file is left as it is",
+        );
     }
     started
 }

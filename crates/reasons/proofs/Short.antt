@@ -25,8 +25,14 @@ reason-short n h = leb→le (length (reason n)) 100 (at 256 short tt n h)
 
 line-short : (n : ℕ) → n < 256 → length (reasonLine n) ≤ 106
 line-short n h =
-    omega (arith, reason-short n h, decimal-short 3 n (omega arith) (omega arith), length-append (decimal n) (ascii ": " ++ (reason n ++ ascii "\n")),
-    length-append (ascii ": ") (reason n ++ ascii "\n"), length-append (reason n) (ascii "\n"))
+    omega (
+      arith,
+      reason-short n h,
+      decimal-short 3 n (omega arith) (omega arith),
+      length-append (decimal n) (ascii ": " ++ (reason n ++ ascii "\n")),
+      length-append (ascii ": ") (reason n ++ ascii "\n"),
+      length-append (reason n) (ascii "\n"),
+    )
 
 -- a line that was written from place 0 on
 pub line-first : (n : ℕ) → n < 256 → (b after : List ℕ) (r : ℕ) → bufferLimit ≤ length b → Wrote (reasonLine n) b 0 after r →

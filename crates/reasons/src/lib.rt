@@ -15,17 +15,45 @@ fn put_words(number: u8, out: &mut [u8], at: usize) -> usize
     ensures { λ r. ⌜ Wrote (reason number) (now (out .entry)) at (now (out .exit)) r ⌝ }
 {
     match number {
-        1 => put_text(out, at, b"not well formed: no start of this program gives such a state"),
+        1 => put_text(
+            out,
+            at,
+            b"not well formed: no start of this program gives such a state",
+        ),
         2 => put_text(out, at, b"short: the lent buffer has fewer than 4096 bytes"),
-        3 => put_text(out, at, b"unreadable: longer than 120 bytes, or with a byte that is neither a space nor printable"),
-        4 => put_text(out, at, b"no command: there is no word, or the first one is no command"),
-        5 => put_text(out, at, b"malformed: too few words or too many, or one that has not the form asked for"),
-        6 => put_text(out, at, b"beyond: an offset past the limit, or an angle that is no quarter turn"),
+        3 => put_text(
+            out,
+            at,
+            b"unreadable: longer than 120 bytes, or with a byte that is neither a space nor printable",
+        ),
+        4 => put_text(
+            out,
+            at,
+            b"no command: there is no word, or the first one is no command",
+        ),
+        5 => put_text(
+            out,
+            at,
+            b"malformed: too few words or too many, or one that has not the form asked for",
+        ),
+        6 => put_text(
+            out,
+            at,
+            b"beyond: an offset past the limit, or an angle that is no quarter turn",
+        ),
         7 => put_text(out, at, b"absent: there is no system of that name"),
         8 => put_text(out, at, b"reserved: the name is kept for a fixed system"),
         9 => put_text(out, at, b"locked: this needs level 1 (CCL 1 ADVANCED)"),
-        10 => put_text(out, at, b"wrong type: no link goes there, or the name is that of a system of another type"),
-        11 => put_text(out, at, b"in use: it is enabled, or an enabled system hangs on it"),
+        10 => put_text(
+            out,
+            at,
+            b"wrong type: no link goes there, or the name is that of a system of another type",
+        ),
+        11 => put_text(
+            out,
+            at,
+            b"in use: it is enabled, or an enabled system hangs on it",
+        ),
         12 => put_text(out, at, b"ring: a system would hang on itself"),
         13 => put_text(out, at, b"full: there are 16 systems already"),
         14 => put_text(out, at, b"no image: no memory is saved as these bytes"),

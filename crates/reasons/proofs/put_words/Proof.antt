@@ -19,20 +19,20 @@ returns-15 c =
     let r = c .before .before .before .before .before .match .rest in
     let n = c .before .before .before .before .before .before .before .args .number in
     rw (
-    ne-eqb n 1 (r .0 .0 .0 .0 .0 .0 .0 .0 .0 .0 .0 .0 .0 .1),
-    ne-eqb n 2 (r .0 .0 .0 .0 .0 .0 .0 .0 .0 .0 .0 .0 .1),
-    ne-eqb n 3 (r .0 .0 .0 .0 .0 .0 .0 .0 .0 .0 .0 .1),
-    ne-eqb n 4 (r .0 .0 .0 .0 .0 .0 .0 .0 .0 .0 .1),
-    ne-eqb n 5 (r .0 .0 .0 .0 .0 .0 .0 .0 .0 .1),
-    ne-eqb n 6 (r .0 .0 .0 .0 .0 .0 .0 .0 .1),
-    ne-eqb n 7 (r .0 .0 .0 .0 .0 .0 .0 .1),
-    ne-eqb n 8 (r .0 .0 .0 .0 .0 .0 .1),
-    ne-eqb n 9 (r .0 .0 .0 .0 .0 .1),
-    ne-eqb n 10 (r .0 .0 .0 .0 .1),
-    ne-eqb n 11 (r .0 .0 .0 .1),
-    ne-eqb n 12 (r .0 .0 .1),
-    ne-eqb n 13 (r .0 .1),
-    ne-eqb n 14 (r .1),
+      ne-eqb n 1 (r .0 .0 .0 .0 .0 .0 .0 .0 .0 .0 .0 .0 .0 .1),
+      ne-eqb n 2 (r .0 .0 .0 .0 .0 .0 .0 .0 .0 .0 .0 .0 .1),
+      ne-eqb n 3 (r .0 .0 .0 .0 .0 .0 .0 .0 .0 .0 .0 .1),
+      ne-eqb n 4 (r .0 .0 .0 .0 .0 .0 .0 .0 .0 .0 .1),
+      ne-eqb n 5 (r .0 .0 .0 .0 .0 .0 .0 .0 .0 .1),
+      ne-eqb n 6 (r .0 .0 .0 .0 .0 .0 .0 .0 .1),
+      ne-eqb n 7 (r .0 .0 .0 .0 .0 .0 .0 .1),
+      ne-eqb n 8 (r .0 .0 .0 .0 .0 .0 .1),
+      ne-eqb n 9 (r .0 .0 .0 .0 .0 .1),
+      ne-eqb n 10 (r .0 .0 .0 .0 .1),
+      ne-eqb n 11 (r .0 .0 .0 .1),
+      ne-eqb n 12 (r .0 .0 .1),
+      ne-eqb n 13 (r .0 .1),
+      ne-eqb n 14 (r .1),
     ) (c .before .before .put-text15 .ensures)
 
 pub put-words-spec : {M : Type 1} → statement M

@@ -2,6 +2,7 @@
 use Prim.Native.Nat.{ℕ, _+_, _-_, _≤_, _<_}
 use mathlib.Core.Path.{_≡_, refl, sym, ap, _∙_}
 use mathlib.Core.List.{List}
+use mathlib.Core.Bool.{Bool, true, false, not}
 use native.Mathlib.Omega.{arith}
 use borrow.Author.Needs.{needs}
 use lib.ListN.{length, take}
@@ -15,11 +16,11 @@ use Rattle.bench.proofs.serve.serve.Statement.{statement}
 use Rattle.bench.proofs.serve.serve.Tie as tie
 
 abbrev Inv-loop : tie.InvT-loop
-Inv-loop k path block out₀ image₀ session₀ at₀ out image session at =
-    (at ≤ length block) × Between session × (length out ≡ length out₀) × (length image ≡ length image₀) × (heldOf session ≡ given k session₀ (take at block) .held)
+Inv-loop k s path block out₀ image₀ session₀ receipt₀ at₀ out image session receipt at =
+    (at ≤ length block) × Between session × (length out ≡ length out₀) × (length image ≡ length image₀) × (heldOf session ≡ given k s (take at block) .held) × (receipt .at ≡ at)
 
 abbrev μ-loop : tie.MeasureT-loop
-μ-loop k path block out₀ image₀ session₀ at₀ out image session at = length block - at
+μ-loop k s path block out₀ image₀ session₀ receipt₀ at₀ out image session receipt at = length block - at
 
 -- the part that was fed
 module _ (k : tie.After-feed Inv-loop μ-loop) where
@@ -27,7 +28,7 @@ module _ (k : tie.After-feed Inv-loop μ-loop) where
   at-loop = k .before .before .before .before
 
   abbrev start : tie.Start Inv-loop μ-loop
-  start = at-loop .before .before .before .before .before
+  start = at-loop .before .before .before .before .before .before
 
   abbrev end : ℕ
   end = at-loop .loop .at + k .feed .result .used
@@ -45,12 +46,12 @@ module _ (k : tie.After-feed Inv-loop μ-loop) where
   written-within = omega (arith, k .feed .ensures .room, kept-long, at-loop .loop .inv .2)
 
 loop-holds : tie.Need-loop-holds Inv-loop μ-loop
-loop-holds c = let start = c .before .before .before .before in (omega arith, start .pre .0, refl, refl, given-nothing (start .args .k) (start .args .s))
+loop-holds c = let start = c .before .before .before .before .before in (omega arith, start .pre .0, refl, refl, given-nothing (start .args .k) (start .args .s), c .nothing-handed .ensures)
 
 feed-requires : tie.Need-feed-requires Inv-loop μ-loop
 feed-requires c κs =
     let l = c .before .before .before .loop in
-    (l .inv .1 .fine, (l .inv .1 .few, omega (arith, l .inv .2, c .before .before .before .before .before .before .before .before .pre .1 .0)))
+    (l .inv .1 .fine, (l .inv .1 .few, omega (arith, l .inv .2, c .before .before .before .before .before .before .before .before .before .pre .1 .0)))
 
 add-end : tie.Need-add-end Inv-loop μ-loop
 add-end c = let k = c .before .before .before in record { fits = omega (arith, used k, start k .good .1 .1 .1 .0 .0) }
@@ -60,30 +61,24 @@ put-image-requires c κs =
     let k = c .before .before .before .before .before .before .before in
     (k .feed .ensures .fine, omega (arith, at-loop k .loop .inv .3, start k .pre .1 .1))
 
-part-hand-out-part-start : tie.Need-part-hand-out-part-start Inv-loop μ-loop
-part-hand-out-part-start c = omega (arith, used (c .before .before .before .before .before .before .before .before .before .before))
-
-part-hand-out-part-end : tie.Need-part-hand-out-part-end Inv-loop μ-loop
-part-hand-out-part-end c = omega (arith, used (c .before .before .before .before .before .before .before .before .before .before))
-
 slice-reshare-prefix-hand-out-part : tie.Need-slice-reshare-prefix-hand-out-part Inv-loop μ-loop
-slice-reshare-prefix-hand-out-part c = written-within (c .before .before .before .before .before .before .before .before .before .before .before)
+slice-reshare-prefix-hand-out-part c = written-within (c .before .before .before .before .before .before .before .before .before .before)
 
 slice-aggregate-hand-out-part : tie.Need-slice-aggregate-hand-out-part Inv-loop μ-loop
-slice-aggregate-hand-out-part c = sym (length-take-le _ _ (written-within (c .before .before .before .before .before .before .before .before .before .before .before .before)))
+slice-aggregate-hand-out-part c = sym (length-take-le _ _ (written-within (c .before .before .before .before .before .before .before .before .before .before .before)))
 
 slice-reshare-prefix-hand-out-part-2 : tie.Need-slice-reshare-prefix-hand-out-part-2 Inv-loop μ-loop
-slice-reshare-prefix-hand-out-part-2 c = c .before .before .before .before .put-image .ensures .within
+slice-reshare-prefix-hand-out-part-2 c = c .before .before .before .put-image .ensures .within
 
 slice-aggregate-hand-out-part-2 : tie.Need-slice-aggregate-hand-out-part-2 Inv-loop μ-loop
-slice-aggregate-hand-out-part-2 c = sym (length-take-le _ _ (c .before .before .before .before .before .put-image .ensures .within))
+slice-aggregate-hand-out-part-2 c = sym (length-take-le _ _ (c .before .before .before .before .put-image .ensures .within))
 
 hand-out-part-requires : tie.Need-hand-out-part-requires Inv-loop μ-loop
 hand-out-part-requires c κs =
-    let k = c .before .before .before .before .before .before .before .before .before .before .before .before .before in
+    let k = c .before .before .before .before .before .before .before .before .before .before .before .before in
     let a = start k .args in
     let l = at-loop k .loop in
-    part-handed (a .k) (a .s) (a .block .now) (l .session) (l .at) (l .inv .4) _ _ (k .feed .result) (k .feed .ensures) (end k) refl _ _ (c .before .before .before .before .before .put-image .ensures)
+    rw (l .inv .5) (part-handed (a .k) (a .s) (a .block .now) (l .session) (l .at) (l .inv .4) _ _ (k .feed .result) (k .feed .ensures) (end k) refl _ _ (c .before .before .before .before .put-image .ensures))
 
 -- the image's buffer keeps its length too
 image-long : (c : tie.After-put-image Inv-loop μ-loop) → length (c .put-image .last .1 .1 .0) ≡ length (start (c .before .before .before .before .before .before .before .before) .args .image .now)
@@ -93,10 +88,10 @@ image-long c =
     e ∙ l .inv .3
 
 same-length : tie.Need-same-length Inv-loop μ-loop
-same-length c = kept-long (c .before .before .before .before .before .before .before .before .before .before .before .before .before .before .before)
+same-length c = kept-long (c .before .before .before .before .before .before .before .before .before .before .before .before .before .before .before .before)
 
 same-length-2 : tie.Need-same-length-2 Inv-loop μ-loop
-same-length-2 c = image-long (c .before .before .before .before .before .before .before)
+same-length-2 c = image-long (c .before .before .before .before .before .before .before .before)
 
 same-length-3 : tie.Need-same-length-3 Inv-loop μ-loop
 same-length-3 c = c .before .loop .inv .2
@@ -106,32 +101,38 @@ same-length-4 c = c .before .loop .inv .3
 
 returns : tie.Need-returns Inv-loop μ-loop
 returns c =
-    let l = at-loop (c .before .before .before .before .before .before .before .before .before .before .before .before .before .before .before) .loop in
-    record { held = λ e. true-false (sym e); between = l .inv .1 }
+    let l = at-loop (c .before .before .before .before .before .before .before .before .before .before .before .before .before .before .before .before) .loop in
+    record { held = λ e. true-false (sym e); handed = λ e. true-false (sym e); between = l .inv .1 }
 
 loop-less : tie.Need-loop-less Inv-loop μ-loop
-loop-less c = let k = c .before .before .before .before .before .before .before .before .before .before .before .before .before .before .before in omega (arith, used k, moved k)
+loop-less c = let k = c .before .before .before .before .before .before .before .before .before .before .before .before .before .before .before .before in omega (arith, used k, moved k)
+
+-- all could be done
+not-false : (t : Bool) → not t ≡ false → t ≡ true
+not-false true e = refl
+not-false false e = true-false e
 
 loop-again : tie.Need-loop-again Inv-loop μ-loop
 loop-again c =
-    let k = c .before .before .before .before .before .before .before .before .before .before .before .before .before .before .before in
+    let k = c .before .before .before .before .before .before .before .before .before .before .before .before .before .before .before .before in
     let a = start k .args in
     let l = at-loop k .loop in
-    let f = k .feed .ensures in
-    (
+    let f = k .feed .ensures in (
       used k,
       record { fine = f .fine; few = f .few },
       kept-long k,
-      image-long (c .before .before .before .before .before .before .before),
+      image-long (c .before .before .before .before .before .before .before .before),
       part-held (a .k) (a .s) (a .block .now) (l .session) (l .at) (l .inv .4) _ _ (k .feed .result) f (end k) refl,
+      c .before .before .before .hand-out-part .ensures .place (not-false _ (c .if1 .left)),
     )
 
 returns-2 : tie.Need-returns-2 Inv-loop μ-loop
 returns-2 c =
     let l = c .before .loop in
-    let a = c .before .before .before .before .before .before .args in
+    let a = c .before .before .before .before .before .before .before .args in
     record {
       held = λ e. l .inv .4 ∙ ap (λ (t : List ℕ). given (a .k) (a .s) t .held) (take-all (l .at) (a .block .now) (c .loop-test .left));
+      handed = λ e. omega (arith, l .inv .5, l .inv .0, c .loop-test .left);
       between = l .inv .1;
     }
 
@@ -141,6 +142,7 @@ serve-spec =
     (tie.spec
     Inv-loop
     μ-loop
+    (λ c κs. search needs)
     loop-holds
     (λ c. search needs)
     (λ c. search needs)
@@ -148,9 +150,6 @@ serve-spec =
     feed-requires
     add-end
     put-image-requires
-    (λ c. search needs)
-    part-hand-out-part-start
-    part-hand-out-part-end
     slice-reshare-prefix-hand-out-part
     slice-aggregate-hand-out-part
     slice-reshare-prefix-hand-out-part-2
