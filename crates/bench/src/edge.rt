@@ -57,12 +57,12 @@ fn write_answers(answers: &[u8]) -> bool {
 }
 
 // Answers to standard output, then the image to the file, then the reason to standard error. What fails has said so, and nothing is done after it.
-fn hand_out(path: &[u8], answers: &[u8], due: Due, image: &[u8]) -> bool {
+fn hand_out(path: &[u8], answers: &[u8], due: Due, image: &[u8], lock: i32) -> bool {
     if !write_answers(answers) {
         return false;
     }
     if due.store {
-        if !save(path, image) {
+        if !save(path, lock, image) {
             return false;
         }
     }
@@ -83,11 +83,12 @@ pub(crate) fn hand_out_part(
     answers: &[u8],
     due: Due,
     image: &[u8],
+    lock: i32,
 ) -> Handed
     requires { ⌜ given k s (take end (now block)) .output ≡ given k s (take (before .at) (now block)) .output ++ outgoing (now answers) due (now image) ⌝ }
     ensures { λ r. ⌜ Hands end r ⌝ }
 {
-    let ok = hand_out(path, answers, due, image);
+    let ok = hand_out(path, answers, due, image, lock);
     if ok {
         let receipt = Receipt { at: end };
         return Handed { receipt, ok: true };
@@ -106,8 +107,9 @@ pub(crate) fn hand_out_last(
     answers: &[u8],
     due: Due,
     image: &[u8],
+    lock: i32,
 ) -> bool
     requires { ⌜ endedActs (mannerOf k) (heldOf s) ≡ outgoing (now answers) due (now image) ⌝ }
 {
-    hand_out(path, answers, due, image)
+    hand_out(path, answers, due, image, lock)
 }

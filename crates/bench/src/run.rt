@@ -9,8 +9,10 @@ use session::feed::Session;
 use store::hold::Lock;
 use store::hold::hold;
 use store::hold::release;
+use store::load::is_fit;
 use store::place::is_link;
 use store::place::settle;
+use store::save::UNLOCKED;
 use store::save::clear;
 ghost use Rattle.session.specs.Blocks.{Between};
 
@@ -36,7 +38,7 @@ fn manner_here() -> Manner {
 }
 
 // Blocks are read and served to the end of the input. Nothing says that the input ends, so the turns are counted down, from a number that no run uses up.
-fn go(path: &[u8], s: Session)
+fn go(path: &[u8], lock: i32, s: Session)
     requires { ⌜ Between s ⌝ }
 {
     let k = manner_here();
@@ -55,35 +57,38 @@ fn go(path: &[u8], s: Session)
         if n == 0 {
             break;
         }
-        let served = serve(k, session, path, &input[..n], &mut output, &mut image);
+        let served = serve(k, session, path, &input[..n], &mut output, &mut image, lock);
         if !served.ok {
             return;
         }
         session = served.session;
         turns -= 1;
     }
-    serve_last(k, session, path, &mut output, &mut image);
+    serve_last(k, session, path, &mut output, &mut image, lock);
 }
 
-// With the file's lock, or where none can be made.
-fn go_at(path: &[u8], linked: bool) {
-    clear(path);
+// With the file's lock, or without where none can be made. What a kill left behind goes where the start is a good one.
+fn go_at(path: &[u8], linked: bool, lock: i32) {
     let started = start(path, linked);
     if started.ok {
-        go(path, started.session);
+        clear(path);
+        go(path, lock, started.session);
     }
 }
 
-// One program at a time.
+// One program at a time. A lock is made beside what may be a file, and nowhere else.
 fn run_at(path: &[u8], linked: bool) {
+    if !is_fit(path) {
+        return;
+    }
     let lock = hold(path);
     match lock {
         Lock::Held(fd) => {
-            go_at(path, linked);
+            go_at(path, linked, fd);
             release(path, fd);
         }
         Lock::Taken => {}
-        Lock::Without => go_at(path, linked),
+        Lock::Without => go_at(path, linked, UNLOCKED),
     }
 }
 
@@ -97,7 +102,22 @@ pub fn run_on(name: &[u8]) {
     run_at(&path[..n], is_link(name));
 }
 
+// Where standard input, output or error is closed, the next file that is opened would get its number, and answers would go there. So something that cannot be
+// written stands in their place.
+fn fill_closed() {
+    let mut left: u8 = 3;
+    while 0 < left {
+        let fd = os::open_read(b"/dev/null");
+        if STDERR_FILENO < fd {
+            libc::close(fd);
+            return;
+        }
+        left -= 1;
+    }
+}
+
 pub fn run() {
+    fill_closed();
     if os::arg_count() != 2 {
         say(
             b"usage: ksbench IMAGE    (IMAGE: the file that keeps the saved coordinate systems; it is made at the first save)\n",

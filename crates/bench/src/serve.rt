@@ -36,7 +36,7 @@ fn put_image(due: Due, s: State, out: &mut [u8]) -> usize
     0
 }
 
-// A block is fed until all of it is used. out takes answers, and image an image.
+// A block is fed until all of it is used. out takes answers, and image an image; lock is the file's.
 pub fn serve(
     k: Manner,
     s: Session,
@@ -44,6 +44,7 @@ pub fn serve(
     block: &[u8],
     out: &mut [u8],
     image: &mut [u8],
+    lock: i32,
 ) -> Served
     requires { ⌜ Between s ⌝ }
     requires { ⌜ bufferLimit ≤ length (now out) ⌝ }
@@ -71,6 +72,7 @@ pub fn serve(
             &out[..written],
             due,
             &image[..size],
+            lock,
         );
         receipt = handed.receipt;
         if !handed.ok {
@@ -91,7 +93,14 @@ pub fn serve(
 }
 
 // The end of the input.
-pub fn serve_last(k: Manner, s: Session, path: &[u8], out: &mut [u8], image: &mut [u8]) -> bool
+pub fn serve_last(
+    k: Manner,
+    s: Session,
+    path: &[u8],
+    out: &mut [u8],
+    image: &mut [u8],
+    lock: i32,
+) -> bool
     requires { ⌜ Between s ⌝ }
     requires { ⌜ bufferLimit ≤ length (now out) ⌝ }
     requires { ⌜ bufferLimit ≤ length (now image) ⌝ }
@@ -101,5 +110,5 @@ pub fn serve_last(k: Manner, s: Session, path: &[u8], out: &mut [u8], image: &mu
     let due = last.due;
     let state = last.state;
     let size = put_image(due, state, image);
-    hand_out_last(k, s, path, &out[..written], due, &image[..size])
+    hand_out_last(k, s, path, &out[..written], due, &image[..size], lock)
 }

@@ -4,6 +4,7 @@ use bench::serve::serve;
 use bench::serve::serve_last;
 use bench::start::start;
 use session::due::Manner;
+use store::save::UNLOCKED;
 
 // A sitting: from what the file holds, with these lines, to their end.
 fn sitting(lines: &[u8]) {
@@ -18,11 +19,19 @@ fn sitting(lines: &[u8]) {
     if !started.ok {
         return;
     }
-    let served = serve(k, started.session, path, lines, &mut output, &mut image);
+    let served = serve(
+        k,
+        started.session,
+        path,
+        lines,
+        &mut output,
+        &mut image,
+        UNLOCKED,
+    );
     if !served.ok {
         return;
     }
-    serve_last(k, served.session, path, &mut output, &mut image);
+    serve_last(k, served.session, path, &mut output, &mut image, UNLOCKED);
 }
 
 fn main() {

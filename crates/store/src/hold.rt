@@ -23,10 +23,10 @@ ghost use Rattle.store.specs.Mark.{Short, Marked, longestNumber};
 ghost use Rattle.store.specs.declared.mark.Mark.{Mark as Mark};
 
 // How often a lock is looked at again that may be on its way: an empty one, whose maker writes its mark at once, but perhaps not before it is read here; and
-// one whose maker is just being ended. Some tenths of a second in all.
-const TURNS: u32 = 100000;
+// one whose maker is just being ended. That is some tenths of a second.
+const TURNS: u32 = 30000;
 
-// The lock is held, by this descriptor; another program has it, and a complaint was made; or no lock can be made here, and then no file can be saved either.
+// The lock is held, by this descriptor; another program has it, and a complaint was made; or none can be made here now, as on a full disk.
 pub enum Lock {
     Held(i32),
     Taken,
@@ -57,7 +57,7 @@ fn shown_here(fd: i32, out: &mut [u8]) -> isize {
 }
 
 // Whether the lock of a descriptor has lost its name: the system then puts ` (deleted)` behind its path, which else ends in `.lock`.
-fn nameless(fd: i32) -> bool {
+pub(crate) fn nameless(fd: i32) -> bool {
     let mut path = io::buffer();
     let got = shown_here(fd, &mut path);
     let n = io::count(got, &path);
@@ -298,7 +298,10 @@ fn lock_again(path: &[u8], lock: &[u8]) -> Lock {
     match hold {
         Lock::Held(fd) => Lock::Held(fd),
         Lock::Taken => {
-            complain(path, b"another ksbench has just taken it");
+            complain(
+                path,
+                b"its .lock file cannot be made: another ksbench has just taken it, or a link stands in its place",
+            );
             Lock::Taken
         }
         Lock::Without => Lock::Without,

@@ -88,6 +88,19 @@ fn openable(path: &[u8], mode: u32) -> bool {
     false
 }
 
+// Whether there may be such a file: else a complaint is made.
+pub fn is_fit(path: &[u8]) -> bool {
+    if no_name(path) {
+        complain(path, b"not the name of a file");
+        return false;
+    }
+    let mode = mode_of(path);
+    if mode == 0 {
+        return true;
+    }
+    openable(path, mode)
+}
+
 // Reads to the end of the file, or until the room is full.
 fn fill(fd: i32, room: &mut [u8]) -> Filled
     ensures { λ r. ⌜ Fills (now (room .entry)) (now (room .exit)) r ⌝ }

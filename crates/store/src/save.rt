@@ -1,4 +1,5 @@
 // The file, written anew: a new file beside it gets the image, and then its name, so that at every moment the old image or the new one is there whole.
+use crate::hold::nameless;
 use crate::load::open_folder;
 use crate::place::beside;
 use crate::reach::mode_of;
@@ -85,8 +86,31 @@ fn replace_and_flush(path: &[u8], new: &[u8], image: &[u8], folder: i32) -> bool
     true
 }
 
-// The image into the file of this path. Its folder is opened first, so that after the rename nothing but its flush can fail.
-pub fn save(path: &[u8], image: &[u8]) -> bool {
+// No lock is held.
+pub const UNLOCKED: i32 = -1;
+
+// Whether a file has this name.
+fn is_there(path: &[u8], suffix: &[u8]) -> bool {
+    let mut room = io::buffer();
+    let n = beside(path, suffix, &mut room);
+    mode_of(&room[..n]) != 0
+}
+
+// Whether the lock has stayed with its holder: another program that took it for left behind may have removed it, and where none could be made, another
+// program may have made one since.
+fn is_ours(path: &[u8], lock: i32) -> bool {
+    if lock == UNLOCKED {
+        return !is_there(path, b".lock");
+    }
+    !nameless(lock)
+}
+
+// The image into the file of this path, under its lock. The folder is opened first, so that after the rename nothing but its flush can fail.
+pub fn save(path: &[u8], lock: i32, image: &[u8]) -> bool {
+    if !is_ours(path, lock) {
+        complain(path, b"not saved: another ksbench has taken it");
+        return false;
+    }
     let mut room = io::buffer();
     let n = beside(path, b".saving", &mut room);
     if n == 0 {

@@ -9,11 +9,11 @@ use Rattle.bench.proofs.run.go.Statement.{statement}
 use Rattle.bench.proofs.run.go.Tie as tie
 
 abbrev Inv-loop : tie.InvT-loop
-Inv-loop path k input₀ output₀ image₀ session₀ turns₀ t12 input output image session turns =
+Inv-loop path lock k input₀ output₀ image₀ session₀ turns₀ t12 input output image session turns =
     (65536 ≡ length input) × (65536 ≡ length output) × (4096 ≡ length image) × Between session
 
 abbrev μ-loop : tie.MeasureT-loop
-μ-loop path k input₀ output₀ image₀ session₀ turns₀ t12 input output image session turns = turns
+μ-loop path lock k input₀ output₀ image₀ session₀ turns₀ t12 input output image session turns = turns
 
 loop-holds : tie.Need-loop-holds Inv-loop μ-loop
 loop-holds c = (search needs, search needs, search needs, c .before .before .before .before .before .pre)

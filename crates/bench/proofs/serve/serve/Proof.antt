@@ -16,11 +16,11 @@ use Rattle.bench.proofs.serve.serve.Statement.{statement}
 use Rattle.bench.proofs.serve.serve.Tie as tie
 
 abbrev Inv-loop : tie.InvT-loop
-Inv-loop k s path block out₀ image₀ session₀ receipt₀ at₀ out image session receipt at =
+Inv-loop k s path block out₀ image₀ lock session₀ receipt₀ at₀ out image session receipt at =
     (at ≤ length block) × Between session × (length out ≡ length out₀) × (length image ≡ length image₀) × (heldOf session ≡ given k s (take at block) .held) × (receipt .at ≡ at)
 
 abbrev μ-loop : tie.MeasureT-loop
-μ-loop k s path block out₀ image₀ session₀ receipt₀ at₀ out image session receipt at = length block - at
+μ-loop k s path block out₀ image₀ lock session₀ receipt₀ at₀ out image session receipt at = length block - at
 
 -- the part that was fed
 module _ (k : tie.After-feed Inv-loop μ-loop) where
