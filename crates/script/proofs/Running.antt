@@ -53,7 +53,7 @@ module _ (p₀ : Place) (block out₀ out : List ℕ) (s : StoredState) (k at w 
   run-turn h line l after o obeys long =
       let f = fed-turn answering p₀ [] block at (place (viewOf s) k) (run .held) end e clips h in
       let a = ap (λ (x : List ℕ). answering .answer (place (viewOf s) k) x) (sym l) in
-      let g = f ∙ ap (λ (x : Answer Place). record { held = holding (x .state) []; output = fed answering p₀ [] (take at block) .output ++ x .text }) a in
+      let g = f ∙ ap (λ (x : Answer Place ℕ). record { held = holding (x .state) []; output = fed answering p₀ [] (take at block) .output ++ x .text }) a in
       record {
         within = omega arith;
         held = ap (λ (x : Fed Place ℕ). x .held) g ∙ ap (λ (v : View). holding (place v (following k)) []) (sym (obeys .state));
@@ -122,7 +122,7 @@ module _ (p : Place) (l block : List ℕ) (few : length l ≤ suc longestLine) (
   held-ends out after o m q obeys h =
       let a = ap (answering .answer p) line-is in
       let next = answering .answer p (take n line) .state .view in
-      let f = fed-first answering p l block few end e h ∙ ap (λ (x : Answer Place). record { held = holding (x .state) []; output = x .text }) (sym a) in
+      let f = fed-first answering p l block few end e h ∙ ap (λ (x : Answer Place ℕ). record { held = holding (x .state) []; output = x .text }) (sym a) in
       record {
         within = omega arith;
         moves = λ z. omega arith;
