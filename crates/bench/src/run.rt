@@ -102,10 +102,17 @@ pub fn run_on(name: &[u8]) {
     run_at(&path[..n], is_link(name));
 }
 
-// Where standard input, output or error is closed, the next file that is opened would get its number, and answers would go there. So something that cannot be
-// written stands in their place.
-fn fill_closed() {
-    let mut left: u8 = 3;
+// Where standard input, output or error is closed, the next file that is opened would get its number, and answers would go there. So something stands in their
+// place that cannot be read, and that cannot be written.
+fn fill_input() {
+    let fd = os::open_append(b"/dev/null");
+    if STDIN_FILENO < fd {
+        libc::close(fd);
+    }
+}
+
+fn fill_outputs() {
+    let mut left: u8 = 2;
     while 0 < left {
         let fd = os::open_read(b"/dev/null");
         if STDERR_FILENO < fd {
@@ -117,7 +124,8 @@ fn fill_closed() {
 }
 
 pub fn run() {
-    fill_closed();
+    fill_input();
+    fill_outputs();
     if os::arg_count() != 2 {
         say(
             b"usage: ksbench IMAGE    (IMAGE: the file that keeps the saved coordinate systems; it is made at the first save)\n",
