@@ -61,9 +61,12 @@ dueStore k st l b = k .storing && saves st (line l b)
 abbrev pub dueReason : Manner → State → List ℕ → List ℕ → ℕ
 dueReason k st l b = cond (k .explaining) (stepped st l b .number) 0
 
+abbrev pub lineDue : Manner → State → List ℕ → List ℕ → List Act
+lineDue k st l b = dueActs (dueStore k st l b) (dueReason k st l b) (stepped st l b .state)
+
 -- [ksbench] a line: its answer, and what is due behind it
 abbrev pub lineActs : Manner → State → List ℕ → List ℕ → List Act
-lineActs k st l b = map prints (printed (stepped st l b)) ++ dueActs (dueStore k st l b) (dueReason k st l b) (stepped st l b .state)
+lineActs k st l b = map prints (printed (stepped st l b)) ++ lineDue k st l b
 
 -- [ksbench] the lines, one after the other; the buffer is lent again
 unfoldable pub acted : Manner → State → List ℕ → List (List ℕ) → List Act

@@ -18,7 +18,7 @@ use Rattle.model.specs.Trace.{Call, line, called, afterCalls, printed, s
 use Rattle.model.specs.Checklist.{asksToSave}
 use Rattle.model.specs.Demand.{Start, factory-start, image-start, startState}
 use Rattle.model.specs.PowerSwitch.{saves, noneSaves, lastSaved}
-use Rattle.model.specs.Bench.{Act, prints, stores, explains, Manner, manner, storedActs, reasonActs, dueActs, dueStore, dueReason, lineActs, acted, ksbench, gathered, byteOf, imageOf, numberOf, poweredOn, fileAfter, fileOf, sent, savedImages, refusedNumbers, GoesWhere, FileKeeps, BenchClaims}
+use Rattle.model.specs.Bench.{Act, prints, stores, explains, Manner, manner, storedActs, reasonActs, dueActs, dueStore, dueReason, lineDue, lineActs, acted, ksbench, gathered, byteOf, imageOf, numberOf, poweredOn, fileAfter, fileOf, sent, savedImages, refusedNumbers, GoesWhere, FileKeeps, BenchClaims}
 use Rattle.model.proofs.Basics.{true-false, and-split, either}
 use Rattle.model.proofs.Ladder.Refusing.{restart-fine}
 use Rattle.model.proofs.Ladder.Exact.{start-some}
@@ -62,15 +62,26 @@ unfolding gathered numberOf storedActs
 due-numbers true n st = ⊎-elim (λ e. rw e refl) (λ e. rw e refl) (either (eqb n 0))
 due-numbers false n st = ⊎-elim (λ e. rw e refl) (λ e. rw e refl) (either (eqb n 0))
 
+-- of a line
+module _ (k : Manner) (st : State) (l b : List ℕ) where
+  line-bytes : gathered byteOf (lineDue k st l b) ≡ []
+  line-bytes = due-bytes (dueStore k st l b) (dueReason k st l b) _
+
+  line-numbers : gathered numberOf (lineDue k st l b) ≡ cond (eqb (dueReason k st l b) 0) [] (dueReason k st l b ∷ [])
+  line-numbers = due-numbers (dueStore k st l b) (dueReason k st l b) _
+
+  line-images : gathered imageOf (lineDue k st l b) ≡ cond (dueStore k st l b) (image (stepped st l b .state .permanent) ∷ []) []
+  line-images = due-images (dueStore k st l b) (dueReason k st l b) _
+
 -- ---- what goes where
 
 -- one line more
 more : {X : Type 0} (f : Act → List X) (k : Manner) (st : State) (l b : List ℕ) (rest : List Act) →
     gathered f (lineActs k st l b ++ rest)
-    ≡ gathered f (map prints (printed (stepped st l b))) ++ (gathered f (dueActs (dueStore k st l b) (dueReason k st l b) (stepped st l b .state)) ++ gathered f rest)
+    ≡ gathered f (map prints (printed (stepped st l b))) ++ (gathered f (lineDue k st l b) ++ gathered f rest)
 more f k st l b rest =
     let said = map prints (printed (stepped st l b)) in
-    let due = dueActs (dueStore k st l b) (dueReason k st l b) (stepped st l b .state) in
+    let due = lineDue k st l b in
     gathered-append f (said ++ due) rest
     ∙ ap (λ t. t ++ gathered f rest) (gathered-append f said due)
     ∙ append-assoc (gathered f said) (gathered f due) (gathered f rest)
@@ -81,7 +92,7 @@ answers-alike k st b [] = refl
 answers-alike k st b (l ∷ ls) =
     let o = stepped st l b in
     more byteOf k st l b (acted k (o .state) (o .buffer) ls)
-    ∙ rw (bytes-printed (printed o), due-bytes (dueStore k st l b) (dueReason k st l b) (o .state)) (ap (λ (t : List ℕ). printed o ++ t) (answers-alike k (o .state) (o .buffer) ls))
+    ∙ rw (bytes-printed (printed o), line-bytes k st l b) (ap (λ (t : List ℕ). printed o ++ t) (answers-alike k (o .state) (o .buffer) ls))
 
 -- the image that a saving line has stored
 image-due : (st : State) (l b : List ℕ) →
@@ -101,14 +112,14 @@ images-gathered true x st b (l ∷ ls) =
     let o = stepped st l b in
     let k = manner true x in
     more imageOf k st l b (acted k (o .state) (o .buffer) ls)
-    ∙ rw (none-printed imageOf (λ c. refl) (printed o), due-images (dueStore k st l b) (dueReason k st l b) (o .state), image-due st l b)
+    ∙ rw (none-printed imageOf (λ c. refl) (printed o), line-images k st l b, image-due st l b)
     (ap (λ (t : List (List ℕ)). cond (saves st (line l b)) (image (st .volatile) ∷ []) [] ++ t) (images-gathered true x (o .state) (o .buffer) ls))
 images-gathered false x st b [] = refl
 images-gathered false x st b (l ∷ ls) =
     let o = stepped st l b in
     let k = manner false x in
     more imageOf k st l b (acted k (o .state) (o .buffer) ls)
-    ∙ rw (none-printed imageOf (λ c. refl) (printed o), due-images (dueStore k st l b) (dueReason k st l b) (o .state)) (images-gathered false x (o .state) (o .buffer) ls)
+    ∙ rw (none-printed imageOf (λ c. refl) (printed o), line-images k st l b) (images-gathered false x (o .state) (o .buffer) ls)
 
 numbers-gathered : (s x : Bool) (st : State) (b : List ℕ) (ls : List (List ℕ)) →
     gathered numberOf (acted (manner s x) st b ls) ≡ cond x (refusedNumbers st b ls) []
@@ -118,14 +129,14 @@ numbers-gathered s true st b (l ∷ ls) =
     let o = stepped st l b in
     let k = manner s true in
     more numberOf k st l b (acted k (o .state) (o .buffer) ls)
-    ∙ rw (none-printed numberOf (λ c. refl) (printed o), due-numbers (dueStore k st l b) (dueReason k st l b) (o .state))
+    ∙ rw (none-printed numberOf (λ c. refl) (printed o), line-numbers k st l b)
     (ap (λ (t : List ℕ). cond (eqb (o .number) 0) [] (o .number ∷ []) ++ t) (numbers-gathered s true (o .state) (o .buffer) ls))
 numbers-gathered s false st b [] = refl
 numbers-gathered s false st b (l ∷ ls) =
     let o = stepped st l b in
     let k = manner s false in
     more numberOf k st l b (acted k (o .state) (o .buffer) ls)
-    ∙ rw (none-printed numberOf (λ c. refl) (printed o), due-numbers (dueStore k st l b) (dueReason k st l b) (o .state)) (numbers-gathered s false (o .state) (o .buffer) ls)
+    ∙ rw (none-printed numberOf (λ c. refl) (printed o), line-numbers k st l b) (numbers-gathered s false (o .state) (o .buffer) ls)
 
 -- ---- the file
 
@@ -152,7 +163,7 @@ after-line : (f : Option (List ℕ)) (x : Bool) (st : State) (l b : List ℕ) �
 after-line f x st l b =
     let o = stepped st l b in
     let k = manner true x in
-    let due = dueActs (dueStore k st l b) (dueReason k st l b) (o .state) in
+    let due = lineDue k st l b in
     after-append f (map prints (printed o)) due
     ∙ ap (λ (g : Option (List ℕ)). fileAfter g due) (after-printed f (printed o))
     ∙ after-due f (dueStore k st l b) (dueReason k st l b) (o .state)
