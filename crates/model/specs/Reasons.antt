@@ -10,12 +10,12 @@ has n k text others = cond (eqb n k) (ascii text) others
 
 unfoldable pub reason : ℕ → List ℕ
 reason n =
-    has n 1 "not well formed: no start of this program gives such a state"
-    (has n 2 "short: the lent buffer has fewer than 4096 bytes"
-    (has n 3 "unreadable: longer than 120 bytes, or with a byte that is neither a space nor printable"
-    (has n 4 "no command: there is no word, or the first one is no command"
+    has n 1 "not well formed: no start gives such a state"
+    (has n 2 "short: the lent buffer has under 4096 bytes"
+    (has n 3 "unreadable: longer than 120 bytes, or with a byte that cannot be printed"
+    (has n 4 "no command: no word at all, or an unknown one"
     (has n 5 "malformed: too few words or too many, or one that has not the form asked for"
-    (has n 6 "beyond: an offset past the limit, or an angle that is no quarter turn"
+    (has n 6 "beyond: offset past the limit, or no quarter turn"
     (has n 7 "absent: there is no system of that name"
     (has n 8 "reserved: the name is kept for a fixed system"
     (has n 9 "locked: this needs level 1 (CCL 1 ADVANCED)"

@@ -15,22 +15,14 @@ fn put_words(number: u8, out: &mut [u8], at: usize) -> usize
     ensures { λ r. ⌜ Wrote (reason number) (now (out .entry)) at (now (out .exit)) r ⌝ }
 {
     match number {
-        1 => put_text(
-            out,
-            at,
-            b"not well formed: no start of this program gives such a state",
-        ),
-        2 => put_text(out, at, b"short: the lent buffer has fewer than 4096 bytes"),
+        1 => put_text(out, at, b"not well formed: no start gives such a state"),
+        2 => put_text(out, at, b"short: the lent buffer has under 4096 bytes"),
         3 => put_text(
             out,
             at,
-            b"unreadable: longer than 120 bytes, or with a byte that is neither a space nor printable",
+            b"unreadable: longer than 120 bytes, or with a byte that cannot be printed",
         ),
-        4 => put_text(
-            out,
-            at,
-            b"no command: there is no word, or the first one is no command",
-        ),
+        4 => put_text(out, at, b"no command: no word at all, or an unknown one"),
         5 => put_text(
             out,
             at,
@@ -39,7 +31,7 @@ fn put_words(number: u8, out: &mut [u8], at: usize) -> usize
         6 => put_text(
             out,
             at,
-            b"beyond: an offset past the limit, or an angle that is no quarter turn",
+            b"beyond: offset past the limit, or no quarter turn",
         ),
         7 => put_text(out, at, b"absent: there is no system of that name"),
         8 => put_text(out, at, b"reserved: the name is kept for a fixed system"),

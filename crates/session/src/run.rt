@@ -55,14 +55,34 @@ pub fn say(number: u8, count: usize, out: &mut [u8]) -> usize
     put_refusal(number, out)
 }
 
-fn joined(volatile: Memory, permanent: Memory, level: u8, error: u8) -> State
-    ensures { λ r. ⌜ r ≡ record { volatile = volatile; permanent = permanent; level = level; error = error } ⌝ }
+// The open parts of the state, put together again.
+fn left_with(
+    volatile: Memory,
+    permanent: Memory,
+    level: u8,
+    error: u8,
+    used: usize,
+    written: usize,
+    due: Due,
+) -> Ran
+    ensures { λ r. ⌜ r ≡ record {
+      state = record { volatile = volatile; permanent = permanent; level = level; error = error };
+      used = used;
+      written = written;
+      due = due;
+    } ⌝ }
 {
-    State {
+    let state = State {
         volatile,
         permanent,
         level,
         error,
+    };
+    Ran {
+        state,
+        used,
+        written,
+        due,
     }
 }
 
@@ -106,11 +126,5 @@ pub fn run_lines(k: Manner, s: State, block: &[u8], out: &mut [u8]) -> Ran
             Deed::Reset => volatile = factory_memory(),
         }
     }
-    let state = joined(volatile, permanent, level, error);
-    Ran {
-        state,
-        used,
-        written,
-        due,
-    }
+    left_with(volatile, permanent, level, error, used, written, due)
 }

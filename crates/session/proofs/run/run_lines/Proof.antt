@@ -135,7 +135,7 @@ same-length c = c .before .before .loop .inv .long
 returns : tie.Need-returns Inv-loop μ-loop
 returns c =
     record {
-      run = rw (c .joined .ensures) (c .before .before .loop .inv);
+      run = rw (c .left-with .ensures) (c .before .before .loop .inv);
       stops = λ h. ⊎-elim
           (λ w. inl (w .left))
           (⊎-elim
