@@ -134,15 +134,15 @@ same-length c = c .before .before .loop .inv .long
 
 returns : tie.Need-returns Inv-loop μ-loop
 returns c =
-    record {
-      run = rw (c .left-with .ensures) (c .before .before .loop .inv);
+    rw (c .left-with .ensures) (record {
+      run = c .before .before .loop .inv;
       stops = λ h. ⊎-elim
           (λ w. inl (w .left))
           (⊎-elim
           (λ w. inr (some-due (c .before .before .loop .due) (sym (w .1 .ensures) ∙ w .2 .taken)))
           (λ w. absurd (omega (arith, h, w .3 .ensures, w .4 .taken))))
           (c .before .loop-test .came);
-    }
+    })
 
 pub run-lines-spec : {M : Type 1} → statement M
 run-lines-spec =
