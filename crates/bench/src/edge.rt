@@ -1,5 +1,6 @@
 // What goes out. What is handed over here for a part of the input is all that the definition has for it, in its order, and whoever has handed it over gets a
-// receipt, which nobody else can make; so nothing is left out. No other function of this crate writes answers or the file.
+// receipt for that part's end, which no other module can make: a loop that passes over a part has none. (That the receipts of a block are asked for with that
+// block and its session is read in `serve`: a receipt names a place only.) No other function of this crate writes answers or the file.
 use libc::STDERR_FILENO;
 use libc::STDOUT_FILENO;
 use reasons::put_reason;
@@ -24,6 +25,11 @@ pub struct Receipt {
 pub struct Handed {
     pub receipt: Receipt,
     pub ok: bool,
+}
+
+// That the end of the input was handed out. Whether it could be done is this module's own.
+pub struct Last {
+    done: bool,
 }
 
 // Before the first byte of a block.
@@ -108,8 +114,9 @@ pub(crate) fn hand_out_last(
     due: Due,
     image: &[u8],
     lock: i32,
-) -> bool
+) -> Last
     requires { ⌜ endedActs (mannerOf k) (heldOf s) ≡ outgoing (now answers) due (now image) ⌝ }
 {
-    hand_out(path, answers, due, image, lock)
+    let done = hand_out(path, answers, due, image, lock);
+    Last { done }
 }

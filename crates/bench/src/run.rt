@@ -1,11 +1,11 @@
 // The program: its argument, the file's lock, the start, and blocks of input to the end.
 use crate::serve::serve;
 use crate::serve::serve_last;
+use crate::start::Started;
 use crate::start::start;
 use libc::STDERR_FILENO;
 use libc::STDIN_FILENO;
 use session::due::Manner;
-use session::feed::Session;
 use store::hold::Lock;
 use store::hold::hold;
 use store::hold::release;
@@ -14,6 +14,8 @@ use store::place::is_link;
 use store::place::settle;
 use store::save::UNLOCKED;
 use store::save::clear;
+ghost use mathlib.Core.Path.{_≡_};
+ghost use mathlib.Core.Bool.{true};
 ghost use Rattle.session.specs.Blocks.{Between};
 
 fn say(text: &[u8]) {
@@ -29,7 +31,9 @@ fn at_terminal() -> bool {
 }
 
 // What is saved is stored, and at a terminal refusals are explained.
-fn manner_here() -> Manner {
+fn manner_here() -> Manner
+    ensures { λ r. ⌜ r .storing ≡ true ⌝ }
+{
     let explaining = at_terminal();
     Manner {
         storing: true,
@@ -38,14 +42,15 @@ fn manner_here() -> Manner {
 }
 
 // Blocks are read and served to the end of the input. Nothing says that the input ends, so the turns are counted down, from a number that no run uses up.
-fn go(path: &[u8], lock: i32, s: Session)
-    requires { ⌜ Between s ⌝ }
+fn go(path: &[u8], lock: i32, started: Started)
+    requires { ⌜ started .ok ≡ true ⌝ }
+    requires { ⌜ Between (started .session) ⌝ }
 {
     let k = manner_here();
     let mut input = io::large_buffer();
     let mut output = io::large_buffer();
     let mut image = io::buffer();
-    let mut session = s;
+    let mut session = started.session;
     let mut turns: u64 = u64::MAX;
     while 0 < turns {
         let got = libc::read(STDIN_FILENO, &mut input);
@@ -72,7 +77,7 @@ fn go_at(path: &[u8], linked: bool, lock: i32) {
     let started = start(path, linked);
     if started.ok {
         clear(path);
-        go(path, lock, started.session);
+        go(path, lock, started);
     }
 }
 

@@ -1,4 +1,5 @@
 // A block of input, and its end: fed to the session until something is due, which is handed out before the next line is answered.
+use crate::edge::Last;
 use crate::edge::Receipt;
 use crate::edge::hand_out_last;
 use crate::edge::hand_out_part;
@@ -9,6 +10,8 @@ use session::due::Manner;
 use session::feed::Session;
 use session::feed::feed;
 use session::feed::finish;
+ghost use mathlib.Core.Path.{_≡_};
+ghost use mathlib.Core.Bool.{true};
 ghost use Prim.Native.Nat.{_≤_};
 ghost use lib.ListN.{length};
 ghost use Rattle.model.specs.Limits.{bufferLimit};
@@ -36,7 +39,7 @@ fn put_image(due: Due, s: State, out: &mut [u8]) -> usize
     0
 }
 
-// A block is fed until all of it is used. out takes answers, and image an image; lock is the file's.
+// A block is fed until all of it is used, in a manner that stores. out takes answers, and image an image; lock is the file's.
 pub fn serve(
     k: Manner,
     s: Session,
@@ -49,6 +52,7 @@ pub fn serve(
     requires { ⌜ Between s ⌝ }
     requires { ⌜ bufferLimit ≤ length (now out) ⌝ }
     requires { ⌜ bufferLimit ≤ length (now image) ⌝ }
+    requires { ⌜ k .storing ≡ true ⌝ }
     ensures { λ r. ⌜ Serves k s (now (block .entry)) r ⌝ }
 {
     let mut session = s;
@@ -100,10 +104,11 @@ pub fn serve_last(
     out: &mut [u8],
     image: &mut [u8],
     lock: i32,
-) -> bool
+) -> Last
     requires { ⌜ Between s ⌝ }
     requires { ⌜ bufferLimit ≤ length (now out) ⌝ }
     requires { ⌜ bufferLimit ≤ length (now image) ⌝ }
+    requires { ⌜ k .storing ≡ true ⌝ }
 {
     let last = finish(k, s, out);
     let written = last.written;

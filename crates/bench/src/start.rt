@@ -5,6 +5,8 @@ use session::feed::begin_from;
 use store::load::Loaded;
 use store::load::load;
 use store::say::complain;
+ghost use mathlib.Core.Path.{_≡_};
+ghost use mathlib.Core.Bool.{false};
 ghost use mathlib.Core.Option.{none, some};
 ghost use Rattle.session.specs.Blocks.{Between};
 ghost use Rattle.bench.specs.Start.{StartsWith};
@@ -36,7 +38,7 @@ pub fn start_from(bytes: &[u8]) -> Started
 
 // No session: what stands in its place is not used.
 fn stopped() -> Started
-    ensures { λ r. ⌜ Between (r .session) ⌝ }
+    ensures { λ r. ⌜ (r .ok ≡ false) × Between (r .session) ⌝ }
 {
     let session = session::feed::begin();
     Started { session, ok: false }
@@ -44,7 +46,7 @@ fn stopped() -> Started
 
 // The bytes that were found, or a word on why they are no image. The file stays as it is.
 fn start_found(path: &[u8], bytes: &[u8]) -> Started
-    ensures { λ r. ⌜ Between (r .session) ⌝ }
+    ensures { λ r. ⌜ StartsWith (some (now (bytes .entry))) r ⌝ }
 {
     let started = start_from(bytes);
     if !started.ok {
@@ -57,7 +59,7 @@ fn start_found(path: &[u8], bytes: &[u8]) -> Started
 }
 
 fn start_new(path: &[u8]) -> Started
-    ensures { λ r. ⌜ Between (r .session) ⌝ }
+    ensures { λ r. ⌜ StartsWith none r ⌝ }
 {
     complain(path, b"no such file yet: starting at the factory");
     start_without()

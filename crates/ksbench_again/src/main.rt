@@ -1,5 +1,5 @@
-// ksbench switched off and on within one run: the file is made by the first save, and the next start finds what was saved last. What a program of the gate
-// is run on is a folder of its own, and empty here.
+// ksbench switched off and on within one run: the file is made by the first save, and each start finds what was saved last. What a program of the gate is run
+// on is a folder of its own, and empty here.
 use bench::serve::serve;
 use bench::serve::serve_last;
 use bench::start::start;
@@ -34,7 +34,10 @@ fn sitting(lines: &[u8]) {
     serve_last(k, served.session, path, &mut output, &mut image, UNLOCKED);
 }
 
+// The first sitting is the program's own, over standard input; what it saved is there at the next.
 fn main() {
+    bench::run::run_on(b"again.img");
+    sitting(b"kln?\nkrm a\nwpa sks\n");
     sitting(b"ksd a x 1\nkln?\n");
     sitting(b"kln?\nksd a x 2\nwpa sks\nksd b\nwpa\nkrm a\nkln?\n");
     sitting(b"klt? a\nkln?\nksd c y 1\nken c\nwpa sks\nken a\nwpa sks");

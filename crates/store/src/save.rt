@@ -35,22 +35,11 @@ fn fill(path: &[u8], fd: i32, image: &[u8]) -> bool {
     true
 }
 
-// The same, and the file is closed.
-fn fill_and_close(path: &[u8], fd: i32, image: &[u8]) -> bool {
-    if !fill(path, fd, image) {
-        libc::close(fd);
-        return false;
-    }
-    if libc::close(fd) != 0 {
-        complain_why(path, b"not saved: cannot write");
-        return false;
-    }
-    true
-}
-
-// The full new file takes the old one's name.
-fn fill_and_rename(path: &[u8], new: &[u8], fd: i32, image: &[u8]) -> bool {
-    if !fill_and_close(path, fd, image) {
+// The full new file takes the old one's name, if it still has its own: another program, which the lock did not keep off, may have removed it and made another
+// of that name.
+fn rename_full(path: &[u8], new: &[u8], fd: i32) -> bool {
+    if nameless(fd) {
+        complain(path, b"not saved: its .saving file is gone; another ksbench may have the file");
         return false;
     }
     if os::rename(new, path) != 0 {
@@ -60,7 +49,20 @@ fn fill_and_rename(path: &[u8], new: &[u8], fd: i32, image: &[u8]) -> bool {
     true
 }
 
-// A new file is made, filled and renamed; where that fails, it is removed.
+// A new file is filled and renamed; where that fails, it is removed.
+fn fill_and_rename(path: &[u8], new: &[u8], fd: i32, image: &[u8]) -> bool {
+    if fill(path, fd, image) {
+        if rename_full(path, new, fd) {
+            return true;
+        }
+    }
+    if !nameless(fd) {
+        os::unlink(new);
+    }
+    false
+}
+
+// The same, and the file is closed. It was flushed before the rename, so closing it has nothing left to do that could fail.
 fn replace(path: &[u8], new: &[u8], image: &[u8]) -> bool {
     let fd = os::create(new);
     if fd < 0 {
@@ -68,9 +70,7 @@ fn replace(path: &[u8], new: &[u8], image: &[u8]) -> bool {
         return false;
     }
     let done = fill_and_rename(path, new, fd, image);
-    if !done {
-        os::unlink(new);
-    }
+    libc::close(fd);
     done
 }
 
@@ -108,7 +108,7 @@ fn is_ours(path: &[u8], lock: i32) -> bool {
 // The image into the file of this path, under its lock. The folder is opened first, so that after the rename nothing but its flush can fail.
 pub fn save(path: &[u8], lock: i32, image: &[u8]) -> bool {
     if !is_ours(path, lock) {
-        complain(path, b"not saved: another ksbench has taken it");
+        complain(path, b"not saved: its .lock file is gone or another's; another ksbench may have the file");
         return false;
     }
     let mut room = io::buffer();

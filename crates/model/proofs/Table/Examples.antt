@@ -119,7 +119,17 @@ of-bench =
       missing = refl;
       found = refl;
       refused = refl;
-      reason = refl;
+      three = refl;
+      four = refl;
+      five = refl;
+      six = refl;
+      seven = refl;
+      eight = refl;
+      nine = refl;
+      ten = refl;
+      eleven = refl;
+      twelve = refl;
+      thirteen = refl;
     }
 
 pub examples : Examples

@@ -32,5 +32,15 @@ pub record OfBench : Type 0 where
   pub missing : poweredOn none ≡ began startFactory 0
   pub found : printedBytes (ksbench inPipe (poweredOn (some atTwo) .state) (ascii "kln?")) ≡ ascii "ZERO=ZERO \nPI_BASE=HEXAPOD \nPI_LEVELLING=HEXAPOD \nA=ZERO\n"
   pub refused : poweredOn (some (ascii "frames")) ≡ began startFactory 14
-  -- the words of a number
-  pub reason : reasonLine 11 ≡ ascii "11: in use: it is enabled, or an enabled system hangs on it\n"
+  -- the words of each number with which a line can be refused
+  pub three : reasonLine 3 ≡ ascii "3: unreadable: longer than 120 bytes, or with a byte that cannot be printed\n"
+  pub four : reasonLine 4 ≡ ascii "4: no command: no word at all, or an unknown one\n"
+  pub five : reasonLine 5 ≡ ascii "5: malformed: too few words or too many, or one that has not the form asked for\n"
+  pub six : reasonLine 6 ≡ ascii "6: beyond: offset past the limit, or no quarter turn\n"
+  pub seven : reasonLine 7 ≡ ascii "7: absent: there is no system of that name\n"
+  pub eight : reasonLine 8 ≡ ascii "8: reserved: the name is kept for a fixed system\n"
+  pub nine : reasonLine 9 ≡ ascii "9: locked: this needs level 1 (CCL 1 ADVANCED)\n"
+  pub ten : reasonLine 10 ≡ ascii "10: wrong type: no link goes there, or the name is that of a system of another type\n"
+  pub eleven : reasonLine 11 ≡ ascii "11: in use: it is enabled, or an enabled system hangs on it\n"
+  pub twelve : reasonLine 12 ≡ ascii "12: ring: a system would hang on itself\n"
+  pub thirteen : reasonLine 13 ≡ ascii "13: full: there are 16 systems already\n"

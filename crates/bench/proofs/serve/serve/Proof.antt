@@ -59,7 +59,7 @@ add-end c = let k = c .before .before .before in record { fits = omega (arith, u
 put-image-requires : tie.Need-put-image-requires Inv-loop μ-loop
 put-image-requires c κs =
     let k = c .before .before .before .before .before .before .before in
-    (k .feed .ensures .fine, omega (arith, at-loop k .loop .inv .3, start k .pre .1 .1))
+    (k .feed .ensures .fine, omega (arith, at-loop k .loop .inv .3, start k .pre .1 .1 .0))
 
 slice-reshare-prefix-hand-out-part : tie.Need-slice-reshare-prefix-hand-out-part Inv-loop μ-loop
 slice-reshare-prefix-hand-out-part c = written-within (c .before .before .before .before .before .before .before .before .before .before)

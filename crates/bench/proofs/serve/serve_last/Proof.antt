@@ -13,7 +13,7 @@ finish-requires : tie.Need-finish-requires
 finish-requires c κs = let p = c .before .before .before .before .pre in (p .0 .fine, (p .0 .few, p .1 .0))
 
 put-image-requires : tie.Need-put-image-requires
-put-image-requires c κs = (c .before .before .before .before .before .finish .ensures .fine, c .before .before .before .before .before .before .before .before .before .before .pre .1 .1)
+put-image-requires c κs = (c .before .before .before .before .before .finish .ensures .fine, c .before .before .before .before .before .before .before .before .before .before .pre .1 .1 .0)
 
 slice-aggregate-hand-out-last : tie.Need-slice-aggregate-hand-out-last
 slice-aggregate-hand-out-last c =
