@@ -39,7 +39,10 @@ fn fill(path: &[u8], fd: i32, image: &[u8]) -> bool {
 // of that name.
 fn rename_full(path: &[u8], new: &[u8], fd: i32) -> bool {
     if nameless(fd) {
-        complain(path, b"not saved: its .saving file is gone; another ksbench may have the file");
+        complain(
+            path,
+            b"not saved: its .saving file is gone; another ksbench may have the file",
+        );
         return false;
     }
     if os::rename(new, path) != 0 {
@@ -108,7 +111,10 @@ fn is_ours(path: &[u8], lock: i32) -> bool {
 // The image into the file of this path, under its lock. The folder is opened first, so that after the rename nothing but its flush can fail.
 pub fn save(path: &[u8], lock: i32, image: &[u8]) -> bool {
     if !is_ours(path, lock) {
-        complain(path, b"not saved: its .lock file is gone or another's; another ksbench may have the file");
+        complain(
+            path,
+            b"not saved: its .lock file is gone or another's; another ksbench may have the file",
+        );
         return false;
     }
     let mut room = io::buffer();
