@@ -1,4 +1,4 @@
-"""The programs that are compared: ksrun and ksscript of this repository, and their Rust twin."""
+"""The programs that are compared: ksrun, ksscript and ksbench of this repository, and the Rust twin of the first two."""
 import os
 import pathlib
 import subprocess
@@ -21,6 +21,10 @@ def ksrun():
 
 def ksscript():
     return built("ksscript")
+
+
+def ksbench():
+    return built("ksbench")
 
 
 def twin(mode="run"):

@@ -20,6 +20,7 @@ use Rattle.model.specs.Lists.{all, any}
 use Rattle.model.specs.Words.{reserved}
 use Rattle.model.specs.Refusals.{precedence, first, readingLadder, requestLadder, changeLadder, absent, noRoom}
 use Rattle.model.specs.Claims.{applies, inOrder}
+use Rattle.model.specs.Checklist.{asksToSave}
 use Rattle.model.specs.Effects.{withVolatile, withError, put, fresh, changed, next}
 use Rattle.model.specs.Reply.{reply}
 use Rattle.model.specs.Machine.{refused, answered, carriedOut, judged}
@@ -35,7 +36,7 @@ use Rattle.commands.specs.declared.subject.Looked.{Looked}
 use Rattle.commands.specs.declared.changed.Deed.{Deed}
 use Rattle.commands.specs.declared.changed.Deed.the-variants.{SetError, Put}
 use Rattle.commands.specs.declared.changed.Decision.{Decision}
-use Rattle.commands.specs.Done.{done, Fits, Decides}
+use Rattle.commands.specs.Done.{done, Fits, saving, Decides}
 use Rattle.commands.specs.Subject.{Sees}
 
 -- ---- the number decides
@@ -61,24 +62,28 @@ module _ (s : StoredState) (c : Change) (n : ℕ) (e : n ≡ first (changeLadder
   st = stateOf s
 
   pub decides-refused : (d : Decision) → (n ≡ 0 → ⊥) → Decided n (SetError n) d → Decides s c d
-  unfolding done Fits
+  unfolding done Fits saving
   decides-refused d z p =
       record {
         outcome = λ b. (λ i. record { state = done (p .1 i) (systemOf (d .system)) st; number = p .0 i; count = 0; buffer = b }) ∙ sym (obeyed-refused st c n e b z);
         doable = record { fits = rw (p .1, Fits) tt; named = p .2 };
+        saves = rw (p .0, p .1, ne-eqb n 0 z) refl;
       }
 
-  pub decides-accepted : (d : Decision) (deed : Deed) → n ≡ 0 → Decided 0 deed d → Fits deed (s .volatile) → done deed (systemOf (d .system)) st ≡ changed st (st .volatile) c → Decides s c d
-  decides-accepted d deed z p f q =
+  pub decides-accepted : (d : Decision) (deed : Deed) → n ≡ 0 → Decided 0 deed d → Fits deed (s .volatile) → done deed (systemOf (d .system)) st ≡ changed st (st .volatile) c →
+      saving deed ≡ asksToSave (asks (change c)) → Decides s c d
+  decides-accepted d deed z p f q t =
       record {
         outcome = λ b. (λ i. record { state = done (p .1 i) (systemOf (d .system)) st; number = p .0 i; count = 0; buffer = b }) ∙ ap (λ (t : State). answered t [] b) q ∙ sym (obeyed-accepted st c n e b z);
         doable = record { fits = rw (p .1) f; named = p .2 };
+        saves = rw (p .0, p .1) t;
       }
 
   -- x is put at the place k
-  pub decides-put : (d : Decision) (k : ℕ) (x : StoredSystem) → n ≡ 0 → d ≡ record { number = 0; deed = Put k; system = x } → nameShaped x ≡ true → (k ≤ maxSystems) × (k ≡ 0 → s .volatile .count < maxSystems) → withVolatile st (putAt (st .volatile) k (systemOf x)) ≡ changed st (st .volatile) c → Decides s c d
-  unfolding done Fits
-  decides-put d k x z p named f q = rw p (decides-accepted (record { number = 0; deed = Put k; system = x }) (Put k) z (refl, refl, named) f q)
+  pub decides-put : (d : Decision) (k : ℕ) (x : StoredSystem) → n ≡ 0 → d ≡ record { number = 0; deed = Put k; system = x } → nameShaped x ≡ true → (k ≤ maxSystems) × (k ≡ 0 → s .volatile .count < maxSystems) → withVolatile st (putAt (st .volatile) k (systemOf x)) ≡ changed st (st .volatile) c →
+      asksToSave (asks (change c)) ≡ false → Decides s c d
+  unfolding done Fits saving
+  decides-put d k x z p named f q t = rw p (decides-accepted (record { number = 0; deed = Put k; system = x }) (Put k) z (refl, refl, named) f q (sym t))
 
 -- a change whose only number is 9, for the level alone: RPA and DPA
 module _ (s : StoredState) (c : Change) (only : changeLadder (stateOf s) (memoryOf (s .volatile)) c ≡ (9, eqb (s .level) 0) ∷ []) (d : Decision) where
@@ -87,9 +92,9 @@ module _ (s : StoredState) (c : Change) (only : changeLadder (stateOf s) (memory
   level-locked e p = decides-refused s c 9 (rw (only, eq-eqb (s .level) 0 e, first) refl) d (λ z. omega arith) p
 
   pub level-open : (s .level ≡ 0 → ⊥) → (deed : Deed) → Decided 0 deed d → Fits deed (s .volatile) →
-      done deed (systemOf (d .system)) (stateOf s) ≡ changed (stateOf s) (memoryOf (s .volatile)) c → Decides s c d
+      done deed (systemOf (d .system)) (stateOf s) ≡ changed (stateOf s) (memoryOf (s .volatile)) c → saving deed ≡ asksToSave (asks (change c)) → Decides s c d
   unfolding first
-  level-open e deed p f q = decides-accepted s c 0 (rw (only, ne-eqb (s .level) 0 e, first) refl) d deed refl p f q
+  level-open e deed p f q t = decides-accepted s c 0 (rw (only, ne-eqb (s .level) 0 e, first) refl) d deed refl p f q t
 
 -- ---- the places of a change that is accepted
 

@@ -1,12 +1,13 @@
 -- What a decision makes of a state.
 use Prim.Native.Nat.{_≤_, _<_}
 use mathlib.Core.Path.{_≡_}
-use Rattle.model.specs.Base.{ℕ, List, true}
+use Rattle.model.specs.Base.{ℕ, List, Bool, true, false, _&&_, eqb}
 use Rattle.model.specs.declared.Memory.{Memory as StoredMemory}
 use Rattle.model.specs.declared.State.{State as StoredState}
 use Rattle.model.specs.Limits.{maxSystems}
 use Rattle.model.specs.Memory.{System, State, factory}
 use Rattle.model.specs.Request.{Change, asks, change}
+use Rattle.model.specs.Checklist.{asksToSave}
 use Rattle.model.specs.Machine.{Outcome}
 use Rattle.model.specs.Effects.{withVolatile, withError, removedAt}
 use Rattle.model.specs.Stored.{systemOf, systemsOf, stateOf, nameShaped, shaped}
@@ -28,6 +29,18 @@ done (SetLevel n) x st = record { volatile = st .volatile; permanent = st .perma
 done Save x st = record { volatile = st .volatile; permanent = st .volatile; level = st .level; error = st .error }
 done Restore x st = withVolatile st (st .permanent)
 done Reset x st = withVolatile st factory
+
+-- it puts the volatile memory in the permanent one's place
+unfoldable pub saving : Deed → Bool
+saving Keep = false
+saving (SetError n) = false
+saving (Put k) = false
+saving (Remove k) = false
+saving (Enable e) = false
+saving (SetLevel n) = false
+saving Save = true
+saving Restore = false
+saving Reset = false
 
 -- [Memory 1] its place is one of the stored memory's, or a free one
 unfoldable pub Fits : Deed → StoredMemory → Type 0
@@ -59,3 +72,5 @@ outcomeOf d st count b = record { state = done (d .deed) (systemOf (d .system)) 
 pub record Decides (s : StoredState) (c : Change) (d : Decision) : Type 0 where
   pub outcome : (b : List ℕ) → outcomeOf d (stateOf s) 0 b ≡ obeyed (stateOf s) (asks (change c)) b
   pub doable : Doable (s .volatile) d
+  -- it saves where the change is an accepted WPA, and nowhere else
+  pub saves : saving (d .deed) ≡ eqb (d .number) 0 && asksToSave (asks (change c))

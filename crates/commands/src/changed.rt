@@ -10,7 +10,7 @@ use model::System;
 ghost use mathlib.Core.Path.{_≡_};
 ghost use mathlib.Core.Bool.{true};
 ghost use Rattle.model.specs.Stored.{nameShaped};
-ghost use Rattle.commands.specs.Done.{Doable, Applied};
+ghost use Rattle.commands.specs.Done.{saving, Doable, Applied};
 
 // What a line does to the state. Places and values are those that are set.
 pub enum Deed {
@@ -53,6 +53,23 @@ pub fn refused(number: u8) -> Decision
         number,
         deed: Deed::SetError(number),
         system,
+    }
+}
+
+// Whether it saves: the volatile memory goes into the permanent one's place.
+pub fn saves(deed: Deed) -> bool
+    ensures { λ r. ⌜ r ≡ saving deed ⌝ }
+{
+    match deed {
+        Deed::Keep => false,
+        Deed::SetError(_) => false,
+        Deed::Put(_) => false,
+        Deed::Remove(_) => false,
+        Deed::Enable(_) => false,
+        Deed::SetLevel(_) => false,
+        Deed::Save => true,
+        Deed::Restore => false,
+        Deed::Reset => false,
     }
 }
 

@@ -8,6 +8,7 @@ use Rattle.lines.proofs.Feeding.{fed-nothing}
 use Rattle.lines.proofs.Places.{rest, rest-used, fed-part}
 use Rattle.session.specs.Feed.{Fed, answering}
 use Rattle.session.specs.Blocks.{heldOf, Feeds}
+use Rattle.session.specs.declared.due.Manner.{Manner}
 use Rattle.session.specs.declared.feed.Session.{Session}
 use Rattle.session.specs.declared.feed.Fed.{Fed as StoredFed}
 use Rattle.session.proofs.Rest.{replied-first}
@@ -19,7 +20,7 @@ given-nothing s = ap (λ (x : Fed). x .held) (sym (fed-nothing answering (heldOf
 
 -- a session t that holds what s gives for a block up to a place, and what was fed of the rest
 module _ (s : Session) (block : List ℕ) (t : Session) (at : ℕ) (held : heldOf t ≡ given s (take at block) .held) (before after : List ℕ) (f : StoredFed)
-    (feeds : Feeds (t .state) (heldOf t .line) (rest block at) before after f) (end : ℕ) (e : end ≡ at + f .used) where
+    (k : Manner) (feeds : Feeds k (t .state) (heldOf t .line) (rest block at) before after f) (end : ℕ) (e : end ≡ at + f .used) where
   abbrev part : List ℕ
   part = take (end - at) (drop at block)
 

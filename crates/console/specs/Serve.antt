@@ -1,22 +1,16 @@
 -- What ksrun does with the bytes that it reads, block by block.
-use Prim.Native.Nat.{ℕ, _≤_}
+use Prim.Native.Nat.{ℕ}
 use mathlib.Core.Path.{_≡_}
 use mathlib.Core.List.{List}
 use mathlib.Core.Bool.{true}
-use Rattle.model.specs.Stored.{FineState}
-use Rattle.session.specs.Feed.{Fed, fed, enough}
-use Rattle.session.specs.Blocks.{heldOf}
+use Rattle.session.specs.Feed.{Fed, fed}
+use Rattle.session.specs.Blocks.{heldOf, Between}
 use Rattle.session.specs.declared.feed.Session.{Session}
 use Rattle.console.specs.declared.Served.{Served}
 
 -- [ksrun] what a session gives for the next bytes of its input: what it prints, and what it holds then
 abbrev pub given : Session → List ℕ → Fed
 given s part = fed (heldOf s .state) (heldOf s .line) part
-
--- a session between two blocks
-pub record Between (s : Session) : Type 0 where
-  pub fine : FineState (s .state)
-  pub few : s .held .count ≤ enough
 
 -- a block was served: if all could be written, the session holds what it gives for the whole block
 pub record Serves (s : Session) (block : List ℕ) (r : Served) : Type 0 where

@@ -2,6 +2,7 @@
 use libc::STDERR_FILENO;
 use libc::STDIN_FILENO;
 use libc::STDOUT_FILENO;
+use session::due::Manner;
 use session::feed::Session;
 use session::feed::begin;
 use session::feed::feed;
@@ -11,8 +12,8 @@ ghost use Prim.Native.Nat.{_≤_};
 ghost use lib.ListN.{length};
 ghost use Rattle.model.specs.Limits.{bufferLimit};
 ghost use Rattle.session.specs.Feed.{ended};
-ghost use Rattle.session.specs.Blocks.{heldOf};
-ghost use Rattle.console.specs.Serve.{given, Between, Serves};
+ghost use Rattle.session.specs.Blocks.{heldOf, Between};
+ghost use Rattle.console.specs.Serve.{given, Serves};
 
 // What a block left: the session, and whether its answers could be written.
 struct Served {
@@ -34,6 +35,14 @@ fn write_last(s: Session, answers: &[u8]) -> bool
     io::write_all(STDOUT_FILENO, answers)
 }
 
+// ksrun has no file, and adds nothing to its answers.
+fn plainly() -> Manner {
+    Manner {
+        storing: false,
+        explaining: false,
+    }
+}
+
 fn complain_of_output() {
     io::write_all(STDERR_FILENO, b"ksrun: standard output cannot be written\n");
 }
@@ -47,7 +56,7 @@ fn serve(s: Session, block: &[u8], out: &mut [u8]) -> Served
     let mut session = s;
     let mut at = 0;
     while at < block.len() {
-        let f = feed(session, &block[at..], out);
+        let f = feed(plainly(), session, &block[at..], out);
         let end = at + f.used;
         let written = f.written;
         if !write_answers(session, &block[at..end], &out[..written]) {
@@ -84,7 +93,8 @@ pub fn run() {
         session = served.session;
         turns -= 1;
     }
-    let n = finish(session, &mut output);
+    let last = finish(plainly(), session, &mut output);
+    let n = last.written;
     if !write_last(session, &output[..n]) {
         complain_of_output();
     }

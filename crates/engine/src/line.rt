@@ -36,7 +36,9 @@ ghost use mathlib.Core.Path.{_≡_};
 ghost use Prim.Native.Nat.{_≤_};
 ghost use lib.ListN.{length};
 ghost use Rattle.model.specs.Limits.{nameLimit, bufferLimit};
+ghost use Rattle.model.specs.Request.{reading};
 ghost use Rattle.model.specs.Machine.{stepped};
+ghost use Rattle.model.specs.Checklist.{asksToSave};
 ghost use Rattle.model.specs.Stored.{FineMemory, FineState, bytesOf, memoryOf, ofOutcome, stateOf};
 ghost use Rattle.request.specs.Asked.{readingOf};
 ghost use Rattle.commands.specs.Obeyed.{obeyed};
@@ -49,7 +51,7 @@ fn carry_out(m: Memory, level: u8, error: u8, q: Request, reply: &mut [u8]) -> S
     requires { ⌜ FineMemory m ⌝ }
     requires { ⌜ (q .first .len ≤ nameLimit) × (q .second .len ≤ nameLimit) ⌝ }
     requires { ⌜ bufferLimit ≤ length (now reply) ⌝ }
-    ensures { λ r. ⌜ ((s : State) → s .volatile ≡ m → s .level ≡ level → s .error ≡ error → Takes s (obeyed (stateOf s) (readingOf q) (now (reply .entry))) r (now (reply .exit))) ⌝ }
+    ensures { λ r. ⌜ ((s : State) → s .volatile ≡ m → s .level ≡ level → s .error ≡ error → Takes s (asksToSave (readingOf q)) (obeyed (stateOf s) (readingOf q) (now (reply .entry))) r (now (reply .exit))) ⌝ }
 {
     let asked = q.asked;
     let a = q.first;
@@ -88,7 +90,7 @@ fn subject_of(m: Memory, a: Name, b: Name) -> Subject
 // What a line does, in any well-formed state of this volatile memory, level and last error.
 pub fn decide(m: Memory, level: u8, error: u8, line: &[u8], reply: &mut [u8]) -> Step
     requires { ⌜ FineMemory m ⌝ }
-    ensures { λ r. ⌜ ((s : State) → s .volatile ≡ m → s .level ≡ level → s .error ≡ error → FineState s → Takes s (stepped (stateOf s) (now (line .entry)) (now (reply .entry))) r (now (reply .exit))) ⌝ }
+    ensures { λ r. ⌜ ((s : State) → s .volatile ≡ m → s .level ≡ level → s .error ≡ error → FineState s → Takes s (asksToSave (reading (now (line .entry)))) (stepped (stateOf s) (now (line .entry)) (now (reply .entry))) r (now (reply .exit))) ⌝ }
 {
     if reply.len() < BUFFER_LIMIT {
         return silent(refused(SHORT));

@@ -22,6 +22,7 @@ ghost use Rattle.model.specs.Stored.{FineMemory, memoryOf, stateOf};
 ghost use Rattle.model.specs.Machine.{answered};
 ghost use Rattle.commands.specs.Obeyed.{obeyed};
 ghost use Rattle.commands.specs.Subject.{Tells};
+ghost use mathlib.Core.Bool.{false};
 ghost use Rattle.engine.specs.Answers.{oneLine};
 ghost use Rattle.engine.specs.Taken.{Takes};
 
@@ -29,7 +30,7 @@ ghost use Rattle.engine.specs.Taken.{Takes};
 pub fn enabled_line(m: Memory, reply: &mut [u8]) -> Step
     requires { ⌜ FineMemory m ⌝ }
     requires { ⌜ bufferLimit ≤ length (now reply) ⌝ }
-    ensures { λ r. ⌜ ((s : State) → s .volatile ≡ m → Takes s (obeyed (stateOf s) (asks (list enabledOnes)) (now (reply .entry))) r (now (reply .exit))) ⌝ }
+    ensures { λ r. ⌜ ((s : State) → s .volatile ≡ m → Takes s false (obeyed (stateOf s) (asks (list enabledOnes)) (now (reply .entry))) r (now (reply .exit))) ⌝ }
 {
     let n = reply::enabled::enabled(m, reply);
     replied(n)
@@ -39,7 +40,7 @@ pub fn enabled_line(m: Memory, reply: &mut [u8]) -> Step
 pub fn systems_line(m: Memory, reply: &mut [u8]) -> Step
     requires { ⌜ FineMemory m ⌝ }
     requires { ⌜ bufferLimit ≤ length (now reply) ⌝ }
-    ensures { λ r. ⌜ ((s : State) → s .volatile ≡ m → Takes s (obeyed (stateOf s) (asks (list systemsAll)) (now (reply .entry))) r (now (reply .exit))) ⌝ }
+    ensures { λ r. ⌜ ((s : State) → s .volatile ≡ m → Takes s false (obeyed (stateOf s) (asks (list systemsAll)) (now (reply .entry))) r (now (reply .exit))) ⌝ }
 {
     let n = reply::systems(m, reply);
     replied(n)
@@ -49,7 +50,7 @@ pub fn systems_line(m: Memory, reply: &mut [u8]) -> Step
 pub fn links_line(m: Memory, reply: &mut [u8]) -> Step
     requires { ⌜ FineMemory m ⌝ }
     requires { ⌜ bufferLimit ≤ length (now reply) ⌝ }
-    ensures { λ r. ⌜ ((s : State) → s .volatile ≡ m → Takes s (obeyed (stateOf s) (asks (list links)) (now (reply .entry))) r (now (reply .exit))) ⌝ }
+    ensures { λ r. ⌜ ((s : State) → s .volatile ≡ m → Takes s false (obeyed (stateOf s) (asks (list links)) (now (reply .entry))) r (now (reply .exit))) ⌝ }
 {
     let n = reply::links(m, reply);
     replied(n)
@@ -59,7 +60,7 @@ pub fn links_line(m: Memory, reply: &mut [u8]) -> Step
 pub fn resultants_line(m: Memory, reply: &mut [u8]) -> Step
     requires { ⌜ FineMemory m ⌝ }
     requires { ⌜ bufferLimit ≤ length (now reply) ⌝ }
-    ensures { λ r. ⌜ ((s : State) → s .volatile ≡ m → Takes s (obeyed (stateOf s) (asks (list resultants)) (now (reply .entry))) r (now (reply .exit))) ⌝ }
+    ensures { λ r. ⌜ ((s : State) → s .volatile ≡ m → Takes s false (obeyed (stateOf s) (asks (list resultants)) (now (reply .entry))) r (now (reply .exit))) ⌝ }
 {
     let n = reply::resultants::resultants(m, reply);
     replied(n)
@@ -70,7 +71,7 @@ fn one_line(m: Memory, group: Group, place: u8, reply: &mut [u8]) -> Step
     requires { ⌜ FineMemory m ⌝ }
     requires { ⌜ bufferLimit ≤ length (now reply) ⌝ }
     requires { ⌜ place ≤ m .count ⌝ }
-    ensures { λ r. ⌜ ((s : State) → Takes s (answered (stateOf s) (oneLine m group place) (now (reply .entry))) r (now (reply .exit))) ⌝ }
+    ensures { λ r. ⌜ ((s : State) → Takes s false (answered (stateOf s) (oneLine m group place) (now (reply .entry))) r (now (reply .exit))) ⌝ }
 {
     let n = reply::resultants::resultant_at(m, group, place, reply);
     replied(n)
@@ -81,7 +82,7 @@ pub fn resultant_line(m: Memory, x: Subject, reply: &mut [u8]) -> Step
     requires { ⌜ FineMemory m ⌝ }
     requires { ⌜ bufferLimit ≤ length (now reply) ⌝ }
     requires { ⌜ x .place ≤ m .count ⌝ }
-    ensures { λ r. ⌜ ((s : State) (n : List ℕ) → s .volatile ≡ m → Tells (memoryOf m) n x → Takes s (obeyed (stateOf s) (asks (list (resultantOf n))) (now (reply .entry))) r (now (reply .exit))) ⌝ }
+    ensures { λ r. ⌜ ((s : State) (n : List ℕ) → s .volatile ≡ m → Tells (memoryOf m) n x → Takes s false (obeyed (stateOf s) (asks (list (resultantOf n))) (now (reply .entry))) r (now (reply .exit))) ⌝ }
 {
     let found = x.found;
     match found {
@@ -94,7 +95,7 @@ pub fn resultant_line(m: Memory, x: Subject, reply: &mut [u8]) -> Step
 // ERR?: the last error, which is then 0.
 pub fn error_line(error: u8, reply: &mut [u8]) -> Step
     requires { ⌜ bufferLimit ≤ length (now reply) ⌝ }
-    ensures { λ r. ⌜ ((s : State) → s .error ≡ error → Takes s (obeyed (stateOf s) (asks lastError) (now (reply .entry))) r (now (reply .exit))) ⌝ }
+    ensures { λ r. ⌜ ((s : State) → s .error ≡ error → Takes s false (obeyed (stateOf s) (asks lastError) (now (reply .entry))) r (now (reply .exit))) ⌝ }
 {
     let length = reply::last_error(error, reply);
     let decision = accepted(Deed::SetError(ACCEPTED));

@@ -17,7 +17,7 @@ take-grows zero p b = refl
 take-grows (suc n) [] b = refl
 take-grows (suc n) (x ∷ p) b = ap (λ (t : List ℕ). x ∷ t) (take-grows n p b)
 
-module _ {S : Type 0} (m : Machine S) where
+module _ {S X : Type 0} (m : Machine S X) where
   pub fed-nothing : (s : S) (l : List ℕ) → fed m s l [] ≡ record { held = holding s l; output = [] }
   unfolding fed
   fed-nothing s l = refl
@@ -42,11 +42,11 @@ module _ {S : Type 0} (m : Machine S) where
       (either (eqb b 10))
 
   -- what is held where a line begins anew
-  abbrev pub begun : S → List ℕ → Fed S
+  abbrev pub begun : S → List X → Fed S X
   begun s t = record { held = holding s []; output = t }
 
   -- the line l is answered
-  abbrev pub answered : S → List ℕ → Fed S
+  abbrev pub answered : S → List ℕ → Fed S X
   answered s l = begun (m .answer s (kept m l) .state) (m .answer s (kept m l) .text)
 
   -- a line that ends: what was held and its own bytes are answered, and nothing is held

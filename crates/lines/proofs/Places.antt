@@ -14,14 +14,14 @@ use Rattle.lines.proofs.Feeding.{begun, answered, fed-append, fed-ended
 abbrev pub lineAt : List ℕ → ℕ → List ℕ
 lineAt block at = take (before (drop at block)) (drop at block)
 
-module _ {S : Type 0} (m : Machine S) (s₀ : S) (l₀ block : List ℕ) (at : ℕ) (s : S) (l : List ℕ) (held : fed m s₀ l₀ (take at block) .held ≡ holding s l) where
+module _ {S X : Type 0} (m : Machine S X) (s₀ : S) (l₀ block : List ℕ) (at : ℕ) (s : S) (l : List ℕ) (held : fed m s₀ l₀ (take at block) .held ≡ holding s l) where
   -- as many bytes more
   pub fed-more : (n : ℕ) → fed m s₀ l₀ (take (at + n) block) ≡ printing (fed m s₀ l₀ (take at block) .output) (fed m s l (take n (drop at block)))
   fed-more n =
       ap (fed m s₀ l₀) (take-add at n block) ∙ fed-append m (take at block) s₀ l₀ (take n (drop at block))
       ∙ ap (λ (h : Held S). printing (fed m s₀ l₀ (take at block) .output) (fed m (h .state) (h .line) (take n (drop at block)))) held
 
-module _ {S : Type 0} (m : Machine S) (s₀ : S) (l₀ block : List ℕ) (at : ℕ) (s : S) (held : fed m s₀ l₀ (take at block) .held ≡ holding s []) (end : ℕ)
+module _ {S X : Type 0} (m : Machine S X) (s₀ : S) (l₀ block : List ℕ) (at : ℕ) (s : S) (held : fed m s₀ l₀ (take at block) .held ≡ holding s []) (end : ℕ)
     (e : end ≡ at + before (drop at block)) where
   -- one line more
   pub fed-turn : Clips m → end < length block →
@@ -32,7 +32,7 @@ module _ {S : Type 0} (m : Machine S) (s₀ : S) (l₀ block : List ℕ) (at : �
       let p : end + 1 ≡ at + suc n = omega arith in
       ap (λ (k : ℕ). fed m s₀ l₀ (take k block)) p ∙ fed-more m s₀ l₀ block at s [] held (suc n)
       ∙ ap (printing (fed m s₀ l₀ (take at block) .output)) (fed-ended m (drop at block) s [] (rw (length-drop at block) (omega arith))
-      ∙ ap (λ (a : Answer S). begun m (a .state) (a .text)) (clips s (lineAt block at)))
+      ∙ ap (λ (a : Answer S X). begun m (a .state) (a .text)) (clips s (lineAt block at)))
 
   -- the rest has no LF: it is held
   pub fed-rest : at ≤ length block → end ≡ length block →
@@ -42,7 +42,7 @@ module _ {S : Type 0} (m : Machine S) (s₀ : S) (l₀ block : List ℕ) (at : �
       let long : length (drop at block) ≡ length block - at = length-drop at block in
       ap (λ (k : ℕ). fed m s₀ l₀ (take k block)) e ∙ fed-more m s₀ l₀ block at s [] held (before (drop at block))
       ∙ ap (printing out) (ap (fed m s []) (take-all (before (drop at block)) (drop at block) (omega arith)) ∙ fed-held m (drop at block) s [] (omega arith))
-      ∙ ap (λ (t : List ℕ). record { held = holding s (kept m (drop at block)); output = t }) (append-nil out)
+      ∙ ap (λ (t : List X). record { held = holding s (kept m (drop at block)); output = t }) (append-nil out)
 
 -- ---- a block that is fed part by part
 
@@ -60,16 +60,16 @@ module _ (block : List ℕ) (at : ℕ) where
       let n : used ≡ end - at = omega arith in
       take-take used (length block - at) (drop at block) (omega (arith, rest-long)) ∙ ap (λ (k : ℕ). take k (drop at block)) n
 
-module _ {S : Type 0} (m : Machine S) (s₀ : S) (l₀ block : List ℕ) (at : ℕ) (s : S) (l : List ℕ) (held : fed m s₀ l₀ (take at block) .held ≡ holding s l) where
+module _ {S X : Type 0} (m : Machine S X) (s₀ : S) (l₀ block : List ℕ) (at : ℕ) (s : S) (l : List ℕ) (held : fed m s₀ l₀ (take at block) .held ≡ holding s l) where
   -- what is held after it
   pub fed-part : (end : ℕ) → at ≤ end → fed m s l (take (end - at) (drop at block)) .held ≡ fed m s₀ l₀ (take end block) .held
   fed-part end h =
       let n : at + (end - at) ≡ end = omega arith in
-      ap (λ (x : Fed S). x .held) (sym (fed-more m s₀ l₀ block at s l held (end - at)) ∙ ap (λ (k : ℕ). fed m s₀ l₀ (take k block)) n)
+      ap (λ (x : Fed S X). x .held) (sym (fed-more m s₀ l₀ block at s l held (end - at)) ∙ ap (λ (k : ℕ). fed m s₀ l₀ (take k block)) n)
 
 -- ---- where bytes of the first line are held
 
-module _ {S : Type 0} (m : Machine S) (s : S) (l block : List ℕ) (few : length l ≤ suc (m .limit)) (end : ℕ) (e : end ≡ 0 + before (drop 0 block)) where
+module _ {S X : Type 0} (m : Machine S X) (s : S) (l block : List ℕ) (few : length l ≤ suc (m .limit)) (end : ℕ) (e : end ≡ 0 + before (drop 0 block)) where
   same-kept : kept m l ≡ l
   same-kept = take-all (suc (m .limit)) l few
 

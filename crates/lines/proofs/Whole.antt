@@ -57,9 +57,9 @@ glued-nothing (one w ws) = refl
 
 -- ---- the answers
 
-module _ {S : Type 0} (m : Machine S) (clips : Clips m) where
+module _ {S X : Type 0} (m : Machine S X) (clips : Clips m) where
   -- what is printed from a state on, where the bytes p of a line came already
-  abbrev printed : List ℕ → S → List ℕ → List ℕ
+  abbrev printed : List ℕ → S → List ℕ → List X
   printed bs s p = fed m s (kept m p) bs .output ++ ended m (fed m s (kept m p) bs .held)
 
   -- the end of the input: what is held, if anything, is a line
@@ -67,7 +67,7 @@ module _ {S : Type 0} (m : Machine S) (clips : Clips m) where
   unfolding pieces glued inputLines answers none?
   whole-end s [] = refl
   whole-end s (c ∷ cs) =
-      append-nil (m .answer s (c ∷ (cs ++ [])) .text) ∙ ap (λ (l : List ℕ). m .answer s (c ∷ l) .text) (append-nil cs) ∙ ap (λ (a : Answer S). a .text) (sym (clips s (c ∷ cs)))
+      append-nil (m .answer s (c ∷ (cs ++ [])) .text) ∙ ap (λ (l : List ℕ). m .answer s (c ∷ l) .text) (append-nil cs) ∙ ap (λ (a : Answer S X). a .text) (sym (clips s (c ∷ cs)))
 
   module _ (s : S) (p : List ℕ) (b : ℕ) (bs : List ℕ) where
     -- a line ends: it is answered, and the next begins with nothing held
@@ -76,7 +76,7 @@ module _ {S : Type 0} (m : Machine S) (clips : Clips m) where
     unfolding answers
     whole-ends h r =
         rw (pieces-ends b bs h, glued-ends p (pieced bs), fed-ends m s (kept m p) b bs h, clips s p, append-assoc)
-        (ap (λ (t : List ℕ). m .answer s p .text ++ t) r)
+        (ap (λ (t : List X). m .answer s p .text ++ t) r)
 
     -- a byte is held
     whole-grows : eqb b 10 ≡ false → answers (m .answer) s (inputLines (glued (p ++ (b ∷ [])) (pieces 10 bs))) ≡ printed bs s (p ++ (b ∷ [])) →

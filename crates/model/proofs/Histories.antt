@@ -9,3 +9,4 @@ pub mod Saved  -- the checklist: save, switch off, switch on, list
 pub mod Checklist  -- all four
 pub mod Stored  -- demand 3 and the checklist of stored states
 pub mod Switched  -- document 02 §7: what the power switch brings back
+pub mod Bench  -- the program of the bench: what goes where, and what the file holds

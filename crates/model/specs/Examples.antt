@@ -7,6 +7,7 @@ use Rattle.model.specs.Examples.Numbers.{OfNumbers}
 use Rattle.model.specs.Examples.Images.{OfImages}
 use Rattle.model.specs.Examples.Histories.{OfHistories}
 use Rattle.model.specs.Examples.Storage.{OfStorage}
+use Rattle.model.specs.Examples.Bench.{OfBench}
 pub mod Memories  -- "Memory and state", "Poses and chains"
 pub mod Lines  -- "A line"
 pub mod Commands  -- "Commands", and the lists
@@ -14,6 +15,7 @@ pub mod Numbers  -- "Error numbers"
 pub mod Images  -- "Image"
 pub mod Histories  -- "The two lists of demand 3", "ksrun"
 pub mod Storage  -- stored values
+pub mod Bench  -- ksbench
 
 pub record Examples : Type 0 where
   pub memories : OfMemories
@@ -25,3 +27,4 @@ pub record Examples : Type 0 where
   pub images : OfImages
   pub histories : OfHistories
   pub storage : OfStorage
+  pub bench : OfBench

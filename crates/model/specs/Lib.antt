@@ -2,6 +2,7 @@
 -- [Memory 2] is the second paragraph of "Memory and state", [Poses] "Poses and chains", [A line], [Commands, KRM] the bullet that begins so,
 -- [lists] the paragraph "Lists run ..", [Error 9] the item, [Errors, end] the paragraph under the items, [Image], [Two lists 1], [ksrun],
 -- [Empty programs, end] the paragraph under that table. Examples has sessions for each of them. [02 §7] is a request of document 02; PowerSwitch renders it.
+-- [ksbench] is the program that the bench runs, in Reasons and Bench.
 pub mod Base
 pub mod Types
 pub mod Ascii
@@ -33,4 +34,6 @@ pub mod Table
 pub mod Stored
 pub mod Histories
 pub mod PowerSwitch
+pub mod Reasons
+pub mod Bench
 pub mod Examples

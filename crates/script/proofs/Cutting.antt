@@ -32,7 +32,7 @@ order-kept l =
 
 -- what is kept of a line tells its answer
 pub clips : Clips answering
-clips p l = ap {B = Answer Place} (λ (o : Order). record { state = place (nextState (p .view) (done (p .view) o)) (following (p .number)); text = answer (p .number) (done (p .view) o) }) (order-kept l)
+clips p l = ap {B = Answer Place ℕ} (λ (o : Order). record { state = place (nextState (p .view) (done (p .view) o)) (following (p .number)); text = answer (p .number) (done (p .view) o) }) (order-kept l)
 
 -- what the blocks print, and then the end, is what all lines of the input are answered
 pub whole : Whole

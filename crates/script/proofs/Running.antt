@@ -40,8 +40,8 @@ run-start s k block out =
     let e = fed-nothing answering (place (viewOf s) k) [] in
     record {
       within = omega arith;
-      held = ap (λ (x : Fed Place). x .held) e;
-      puts = wrote-by (ap (λ (x : Fed Place). x .output) (sym e)) (wrote-none out 0);
+      held = ap (λ (x : Fed Place ℕ). x .held) e;
+      puts = wrote-by (ap (λ (x : Fed Place ℕ). x .output) (sym e)) (wrote-none out 0);
       room = omega arith;
     }
 
@@ -53,11 +53,11 @@ module _ (p₀ : Place) (block out₀ out : List ℕ) (s : StoredState) (k at w 
   run-turn h line l after o obeys long =
       let f = fed-turn answering p₀ [] block at (place (viewOf s) k) (run .held) end e clips h in
       let a = ap (λ (x : List ℕ). answering .answer (place (viewOf s) k) x) (sym l) in
-      let g = f ∙ ap (λ (x : Answer Place). record { held = holding (x .state) []; output = fed answering p₀ [] (take at block) .output ++ x .text }) a in
+      let g = f ∙ ap (λ (x : Answer Place ℕ). record { held = holding (x .state) []; output = fed answering p₀ [] (take at block) .output ++ x .text }) a in
       record {
         within = omega arith;
-        held = ap (λ (x : Fed Place). x .held) g ∙ ap (λ (v : View). holding (place v (following k)) []) (sym (obeys .state));
-        puts = wrote-by (ap (λ (x : Fed Place). x .output) (sym g)) (wrote-then (run .puts) (obeys .text));
+        held = ap (λ (x : Fed Place ℕ). x .held) g ∙ ap (λ (v : View). holding (place v (following k)) []) (sym (obeys .state));
+        puts = wrote-by (ap (λ (x : Fed Place ℕ). x .output) (sym g)) (wrote-then (run .puts) (obeys .text));
         room = omega (arith, obeys .inside);
       }
 
@@ -69,9 +69,9 @@ module _ (p₀ : Place) (block out₀ out : List ℕ) (s : StoredState) (k at w 
       record {
         within = omega arith;
         moves = λ m. omega arith;
-        puts = wrote-by (ap (λ (x : Fed Place). x .output) (sym f)) (run .puts);
+        puts = wrote-by (ap (λ (x : Fed Place ℕ). x .output) (sym f)) (run .puts);
         room = run .room;
-        held = ap (holding (place (viewOf s) k)) (keeps .bytes ∙ ap (λ (j : ℕ). take j (drop at block)) long) ∙ sym (ap (λ (x : Fed Place). x .held) f);
+        held = ap (holding (place (viewOf s) k)) (keeps .bytes ∙ ap (λ (j : ℕ). take j (drop at block)) long) ∙ sym (ap (λ (x : Fed Place ℕ). x .held) f);
         few = keeps .inside;
       }
 
@@ -80,7 +80,7 @@ module _ (p₀ : Place) (block out₀ out : List ℕ) (s : StoredState) (k at w 
   run-none : at ≡ 0 → w ≡ 0
   run-none z =
       let e = ap (λ (j : ℕ). fed answering p₀ [] (take j block)) z ∙ fed-nothing answering p₀ [] in
-      omega (arith, run .puts .place, ap (λ (x : Fed Place). length (x .output)) e)
+      omega (arith, run .puts .place, ap (λ (x : Fed Place ℕ). length (x .output)) e)
 
   -- no room for another answer: nothing is held
   pub run-stop : (line : List ℕ) → longestAnswer ≤ length out₀ → length out ≡ length out₀ → length out - w < longestAnswer →
@@ -110,9 +110,9 @@ module _ (p : Place) (l block : List ℕ) (few : length l ≤ suc longestLine) (
       record {
         within = omega arith;
         moves = λ m. omega arith;
-        puts = wrote-by (ap (λ (x : Fed Place). x .output) (sym f)) (wrote-none out 0);
+        puts = wrote-by (ap (λ (x : Fed Place ℕ). x .output) (sym f)) (wrote-none out 0);
         room = omega arith;
-        held = ap (λ (x : Place). holding x (take n line)) (sym q) ∙ ap (holding p) line-is ∙ sym (ap (λ (x : Fed Place). x .held) f);
+        held = ap (λ (x : Place). holding x (take n line)) (sym q) ∙ ap (holding p) line-is ∙ sym (ap (λ (x : Fed Place ℕ). x .held) f);
         few = keeps .inside;
       }
 
@@ -122,13 +122,13 @@ module _ (p : Place) (l block : List ℕ) (few : length l ≤ suc longestLine) (
   held-ends out after o m q obeys h =
       let a = ap (answering .answer p) line-is in
       let next = answering .answer p (take n line) .state .view in
-      let f = fed-first answering p l block few end e h ∙ ap (λ (x : Answer Place). record { held = holding (x .state) []; output = x .text }) (sym a) in
+      let f = fed-first answering p l block few end e h ∙ ap (λ (x : Answer Place ℕ). record { held = holding (x .state) []; output = x .text }) (sym a) in
       record {
         within = omega arith;
         moves = λ z. omega arith;
-        puts = wrote-by (ap (λ (x : Fed Place). x .output) (sym f)) (obeys .text);
+        puts = wrote-by (ap (λ (x : Fed Place ℕ). x .output) (sym f)) (obeys .text);
         room = obeys .inside;
-        held = ap (λ (v : View). holding (place v m) []) (obeys .state) ∙ ap (λ (j : ℕ). holding (place next j) []) q ∙ sym (ap (λ (x : Fed Place). x .held) f);
+        held = ap (λ (v : View). holding (place v m) []) (obeys .state) ∙ ap (λ (j : ℕ). holding (place next j) []) q ∙ sym (ap (λ (x : Fed Place ℕ). x .held) f);
         few = omega arith;
       }
 

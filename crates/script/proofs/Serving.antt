@@ -16,7 +16,7 @@ use Rattle.script.proofs.Cutting.{wrote-first}
 
 -- before the first byte
 pub given-nothing : (s : Script) (held : List ℕ) → heldOf s held ≡ given s held [] .held
-given-nothing s held = ap (λ (x : Fed Place). x .held) (sym (fed-nothing answering (placeOf s) (take (s .held) held)))
+given-nothing s held = ap (λ (x : Fed Place ℕ). x .held) (sym (fed-nothing answering (placeOf s) (take (s .held) held)))
 
 -- the front of one buffer, kept in another that is as long
 pub kept-front : (line : List ℕ) (n : ℕ) {held after : List ℕ} {r : ℕ} → n ≤ length line → length held ≡ length line →

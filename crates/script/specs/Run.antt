@@ -29,7 +29,7 @@ abbrev pub following : ℕ → ℕ
 following k = (k + 1) % 2 ^ 64
 
 -- the machine: a line, what it orders, and what that is answered
-abbrev pub answering : Machine Place
+abbrev pub answering : Machine Place ℕ
 answering =
     record {
       answer = λ p l. record { state = place (nextState (p .view) (done (p .view) (order l))) (following (p .number)); text = answer (p .number) (done (p .view) (order l)) };
@@ -50,7 +50,7 @@ abbrev pub heldOf : Script → List ℕ → Held Place
 heldOf s line = holding (placeOf s) (take (s .held) line)
 
 -- what a script gives for the next bytes of its input: what it prints, and what it holds then
-abbrev pub given : Script → List ℕ → List ℕ → Fed Place
+abbrev pub given : Script → List ℕ → List ℕ → Fed Place ℕ
 given s held part = fed answering (placeOf s) (take (s .held) held) part
 
 -- every line can be held and decoded, every buffer lent, and every answer given

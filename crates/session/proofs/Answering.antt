@@ -2,7 +2,7 @@
 use Prim.Native.Nat.{ℕ, _≤_, _<_}
 use mathlib.Core.Path.{_≡_, refl, sym, ap, _∙_}
 use mathlib.Core.List.{List}
-use mathlib.Core.Bool.{true}
+use mathlib.Core.Bool.{Bool, true, cond, _&&_}
 use mathlib.Core.Logic.{⊎-elim}
 use native.Mathlib.Omega.{arith}
 use borrow.Author.Tests.{eqb-true, eqb-false}
@@ -15,17 +15,23 @@ use Rattle.model.proofs.Digits.{decimal-short}
 use Rattle.print.proofs.Laws.{over-front}
 use Rattle.model.specs.declared.State.{State as StoredState}
 use Rattle.model.specs.Limits.{bufferLimit}
+use Rattle.model.specs.Request.{reading}
 use Rattle.model.specs.Machine.{Outcome, stepped, written}
+use Rattle.model.specs.Checklist.{asksToSave}
+use Rattle.model.specs.PowerSwitch.{saves}
 use Rattle.model.specs.Trace.{refusalText, printed}
-use Rattle.model.specs.Stored.{FineState, Answered, ofOutcome, shaped, stateOf}
+use Rattle.model.specs.Stored.{FineState, shaped, stateOf}
 use Rattle.model.proofs.Basics.{either}
 use Rattle.model.proofs.Histories.Kept.{well-formed-kept}
-use Rattle.engine.specs.declared.answer.Stepped.{Stepped}
-use Rattle.engine.specs.Answers.{answeredOf}
-use Rattle.model.proofs.Views.{view-is}
+use Rattle.commands.specs.Done.{saving, Applied}
+use Rattle.engine.specs.declared.answer.Step.{Step}
+use Rattle.engine.specs.Taken.{Takes, takenOf}
 use Rattle.reply.specs.Lines.{Replied}
 use Rattle.session.specs.Feed.{lent, said, outcome}
-use Rattle.session.specs.Blocks.{Says, Answers}
+use Rattle.session.specs.Blocks.{Says, Answers, mannerOf, dueAfter}
+use Rattle.session.specs.declared.due.Manner.{Manner as StoredManner}
+use Rattle.session.specs.declared.due.Due.{Due}
+use Rattle.session.specs.declared.feed.Answer.{Answer}
 use Rattle.session.proofs.Buffer.{Seen, seen, any-buffer, Writes, taken-writes, turned-down}
 use Rattle.session.proofs.Whole.{lent-long}
 
@@ -82,23 +88,33 @@ module _ (s : StoredState) (fine : FineState s) (line b : List ℕ) (long : buff
       let p = says-puts d n says in
       rw (p .count-is) (fits (said (stateOf s) line) b (sym (ap length (p .bytes)) ∙ kept))
 
+  -- what is due, by what was decided
+  pub due-is : (k : StoredManner) (stored : Bool) → stored ≡ eqb (o .number) 0 && asksToSave (reading line) → (due : Due) →
+      due ≡ record { store = k .storing && stored; reason = cond (k .explaining) (o .number) 0 } → due ≡ dueAfter (mannerOf k) (stateOf s) line
+  unfolding saves
+  due-is k stored told due is =
+      is ∙ rw told (ap {B = Due} (λ (n : ℕ). record { store = k .storing && (eqb n 0 && asksToSave (reading line)); reason = cond (k .explaining) n 0 })
+      (ap (λ (x : Seen). x .number) like-lent))
+
   -- any stored state that stands for the next one will do
-  pub answers : (d : List ℕ) (n : ℕ) → Says (o .number) (o .count) (o .buffer) d n → length d ≡ length b →
-      (next : StoredState) → stateOf next ≡ o .state → shaped next ≡ true → Answers s line b d next n
-  answers d n says kept next state shape =
+  pub answers : (k : StoredManner) (d : List ℕ) (r : Answer) → Says (o .number) (o .count) (o .buffer) d (r .written) → length d ≡ length b →
+      stateOf (r .state) ≡ o .state → shaped (r .state) ≡ true → r .due ≡ dueAfter (mannerOf k) (stateOf s) line → Answers k s line b d r
+  answers k d r says kept state shape due =
       record {
-        puts = says-puts d n says;
-        room = says-room d n says kept;
+        puts = says-puts d (r .written) says;
+        room = says-room d (r .written) says kept;
         state = state ∙ ap (λ (x : Seen). x .state) like-lent;
         fine = record { shape = shape; formed = rw (state, e) (well-formed-kept .line (stateOf s) line b (fine .formed)) };
+        due = due;
       }
 
--- the same where the state came back by value
-pub answers-obeyed : (s : StoredState) → FineState s → (line b : List ℕ) → bufferLimit ≤ length b → (r : Stepped) (c : List ℕ) →
-    answeredOf r c ≡ ofOutcome (stepped (stateOf s) line b) → (d : List ℕ) (n : ℕ) → Says (r .number) (r .length) c d n → length d ≡ length b →
-    Answers s line b d (r .state) n
-answers-obeyed s fine line b long r c e d n says kept =
-    let v = view-is (r .state) (stepped (stateOf s) line b .state) (ap (λ (a : Answered). a .state) e) in
-    let o : Outcome = record { state = stateOf (r .state); number = r .number; count = r .length; buffer = c } in
-    let whole : o ≡ stepped (stateOf s) line b = λ i. record { state = v .1 i; number = e i .number; count = e i .count; buffer = e i .buffer } in
-    answers s fine line b long o whole d n says kept (r .state) refl (v .0)
+-- the same where the step was taken: it is said, and done
+module _ (k : StoredManner) (s : StoredState) (fine : FineState s) (line b : List ℕ) (long : bufferLimit ≤ length b) (step : Step) (c : List ℕ)
+    (takes : Takes s (asksToSave (reading line)) (stepped (stateOf s) line b) step c) where
+  pub answers-taken : (d : List ℕ) (n : ℕ) → Says (step .decision .number) (step .length) c d n → length d ≡ length b →
+      (due : Due) → due ≡ record { store = k .storing && saving (step .decision .deed); reason = cond (k .explaining) (step .decision .number) 0 } →
+      {next : StoredState} → Applied s (step .decision) next → Answers k s line b d (record { state = next; written = n; due = due })
+  answers-taken d n says kept due told {next} done =
+      let o = takenOf (stateOf s) step c in
+      answers s fine line b long o (takes .outcome) k d (record { state = next; written = n; due = due }) says kept (done .state) (done .shape (fine .shape))
+      (due-is s fine line b long o (takes .outcome) k _ (takes .saves) due told)

@@ -1,4 +1,4 @@
--- What a line prints and what it does to the state do not depend on what the lent buffer holds, if it is long enough; and of a line that is too long,
+-- What a line prints, its number and what it does to the state do not depend on what the lent buffer holds, if it is long enough; and of a line that is too long,
 -- one byte too many tells all.
 use Prim.Native.Nat.{ℕ, suc, _≤_, _<_}
 use mathlib.Core.Path.{_≡_, refl, sym, ap, _∙_}
@@ -19,13 +19,14 @@ use native.Mathlib.Decide.{decLt}
 use Rattle.model.specs.Trace.{refusalText, printed}
 use Rattle.lines.proofs.Lent.{Shown, shown, shown-alike, text-answered}
 
--- what is seen of an outcome: the state, and what is printed
+-- what is seen of an outcome: the state, the number, and what is printed
 pub record Seen : Type 0 where
   pub state : State
+  pub number : ℕ
   pub text : List ℕ
 
 abbrev pub seen : Outcome → Seen
-seen o = record { state = o .state; text = printed o }
+seen o = record { state = o .state; number = o .number; text = printed o }
 
 long : (b : List ℕ) → bufferLimit ≤ length b → short b ≡ false
 unfolding short
@@ -46,7 +47,7 @@ printed-answered st t b = text-answered t b
 seen-shown : (o p : Outcome) → shown o ≡ shown p → seen o ≡ seen p
 unfolding printed
 seen-shown o p e =
-    ap {B = Seen} (λ (s : Shown). record { state = s .state; text = elim (eqb (s .number) 0) [ true ↦ s .text | false ↦ refusalText (s .number) ] }) e
+    ap {B = Seen} (λ (s : Shown). record { state = s .state; number = s .number; text = elim (eqb (s .number) 0) [ true ↦ s .text | false ↦ refusalText (s .number) ] }) e
 
 -- ---- the two laws
 
@@ -54,7 +55,7 @@ seen-shown o p e =
 pub any-buffer : (st : State) (l b c : List ℕ) → bufferLimit ≤ length b → bufferLimit ≤ length c → seen (stepped st l b) ≡ seen (stepped st l c)
 any-buffer st l b c h k = seen-shown (stepped st l b) (stepped st l c) (shown-alike st l l b c (refusal-alone st l b h ∙ sym (refusal-alone st l c k)) (λ z. refl))
 
-too-long : (st : State) (l b : List ℕ) → bufferLimit ≤ length b → lineLimit < length l → refusal st l b ≡ 3
+pub too-long : (st : State) (l b : List ℕ) → bufferLimit ≤ length b → lineLimit < length l → refusal st l b ≡ 3
 unfolding first unreadable
 too-long st l b h k = refusal-alone st l b h ∙ rw (lt-ltb lineLimit (length l) k)
 

@@ -1,20 +1,32 @@
--- Block by block or whole, the same is printed: `whole`.
-use Prim.Native.Nat.{ℕ, _≤_}
-use mathlib.Core.Path.{_≡_, refl, ap, _∙_}
-use mathlib.Core.List.{List, [], _∷_, _++_}
+-- Block by block or whole, the same is printed, and the same is done: `whole`, `whole-acts`.
+use Prim.Native.Nat.{ℕ, suc, _≤_, _<_}
+use mathlib.Core.Path.{_≡_, refl, sym, ap, _∙_}
+use mathlib.Core.List.{List, [], _∷_, _++_, map}
+use mathlib.Core.Bool.{Bool, false, cond, _&&_}
+use lib.Dec.{eqb}
+use mathlib.Core.Logic.{⊎-elim}
 use native.Mathlib.Omega.{arith}
-use lib.ListN.{length, length-replicate}
+use native.Mathlib.Decide.{decLt}
+use lib.ListN.{length, take, length-replicate}
+use lib.Seq.{take-all}
 use Rattle.model.specs.Lists.{pieces}
-use Rattle.model.specs.Limits.{bufferLimit}
+use Rattle.model.specs.Limits.{bufferLimit, lineLimit}
 use Rattle.model.specs.Memory.{State}
 use Rattle.model.specs.Machine.{stepped, startFactory}
+use Rattle.model.specs.Request.{reading}
+use Rattle.model.specs.Checklist.{asksToSave}
+use Rattle.model.specs.PowerSwitch.{saves}
 use Rattle.model.specs.Trace.{printed, session, inputLines, ksrun}
+use Rattle.model.specs.Bench.{Act, Manner, prints, dueActs, lineActs, acted, ksbench}
 use Rattle.lines.specs.Feed.{Answer}
 use Rattle.lines.specs.Whole.{answers, Clips}
 use Rattle.lines.proofs.Whole.{whole-input}
-use Rattle.session.specs.Feed.{lent, answering, ended, said, outcome}
-use Rattle.session.specs.Whole.{Whole}
-use Rattle.session.proofs.Buffer.{Seen, any-buffer, clipped, stays-long}
+use Rattle.session.specs.Feed.{lent, answering, acting, ended, endedActs, said, outcome}
+use Rattle.session.specs.Whole.{Whole, WholeActs}
+use Rattle.model.specs.WellFormed.{wellFormed}
+use Rattle.model.proofs.Basics.{either}
+use Rattle.model.proofs.Ladder.Refusing.{step-ill, step-number}
+use Rattle.session.proofs.Buffer.{Seen, seen, any-buffer, too-long, clipped, stays-long}
 
 pub lent-long : bufferLimit ≤ length lent
 unfolding lent
@@ -23,7 +35,7 @@ lent-long = rw (length-replicate {A = ℕ} bufferLimit 0) (omega arith)
 -- ---- of a line that is too long, one byte too many tells all
 
 pub clips : Clips answering
-clips st p = ap {B = Answer State} (λ (s : Seen). record { state = s .state; text = s .text }) (clipped st p lent lent-long)
+clips st p = ap {B = Answer State ℕ} (λ (s : Seen). record { state = s .state; text = s .text }) (clipped st p lent lent-long)
 
 -- ---- the buffer that is lent again does not show
 
@@ -39,3 +51,52 @@ session-answers (l ∷ ls) st b h =
 pub whole : Whole
 unfolding ksrun lent ended
 whole input = session-answers (inputLines (pieces 10 input)) startFactory lent lent-long ∙ whole-input answering clips startFactory input
+
+-- ---- acts
+
+-- the acts of a line, by what is seen of its outcome, and by whether it asks to save
+abbrev actsSeen : Manner → Bool → Seen → List Act
+actsSeen k asked s = map prints (s .text) ++ dueActs (k .storing && (eqb (s .number) 0 && asked)) (cond (k .explaining) (s .number) 0) (s .state)
+
+abbrev answerSeen : Manner → Bool → Seen → Answer State Act
+answerSeen k asked s = record { state = s .state; text = actsSeen k asked s }
+
+acts-seen : (k : Manner) (st : State) (l b : List ℕ) → lineActs k st l b ≡ actsSeen k (asksToSave (reading l)) (seen (stepped st l b))
+unfolding saves
+acts-seen k st l b = refl
+
+-- what a refused line asks does not show
+refused-alike : (k : Manner) (asked asked′ : Bool) (s : Seen) → eqb (s .number) 0 ≡ false → answerSeen k asked s ≡ answerSeen k asked′ s
+refused-alike k asked asked′ s e = rw e refl
+
+-- a line that is too long is refused
+long-refused : (st : State) (l : List ℕ) → lineLimit < length l → eqb (outcome st l .number) 0 ≡ false
+long-refused st l h =
+    ⊎-elim
+    (λ w. rw (step-number st l lent w, too-long st l lent lent-long h) refl)
+    (λ w. rw (step-ill st l lent w) refl)
+    (either (wellFormed st))
+
+pub clips-acts : (k : Manner) → Clips (acting k)
+unfolding saves
+clips-acts k st l =
+    let short = take (suc lineLimit) l in
+    elim (decLt lineLimit (length l)) [
+      | yes h ↦ ap (answerSeen k (asksToSave (reading short))) (clipped st l lent lent-long)
+          ∙ refused-alike k (asksToSave (reading short)) (asksToSave (reading l)) (seen (outcome st l)) (long-refused st l h)
+      | no h ↦ ap (acting k .answer st) (take-all (suc lineLimit) l (omega arith))
+    ]
+
+-- the buffer that is lent again does not show
+acted-answers : (k : Manner) (ls : List (List ℕ)) (st : State) (b : List ℕ) → bufferLimit ≤ length b → acted k st b ls ≡ answers (acting k .answer) st ls
+unfolding acted answers
+acted-answers k [] st b h = refl
+acted-answers k (l ∷ ls) st b h =
+    let e = any-buffer st l b lent h lent-long in
+    let state : stepped st l b .state ≡ outcome st l .state = ap (λ (s : Seen). s .state) e in
+    let acts : lineActs k st l b ≡ lineActs k st l lent = acts-seen k st l b ∙ ap (actsSeen k (asksToSave (reading l))) e ∙ sym (acts-seen k st l lent) in
+    rw (acts, state) (ap (λ (t : List Act). lineActs k st l lent ++ t) (acted-answers k ls (outcome st l .state) (stepped st l b .buffer) (omega (arith, stays-long st l b))))
+
+pub whole-acts : WholeActs
+unfolding ksbench lent endedActs
+whole-acts k st input = acted-answers k (inputLines (pieces 10 input)) st lent lent-long ∙ whole-input (acting k) (clips-acts k) st input

@@ -1,5 +1,5 @@
--- Document 01, "ksrun", for input that comes in blocks: lines are cut as in lines/specs/Feed.antt, and answered by the machine of document 01.
--- Whole.antt ties it to the whole output for the whole input.
+-- Document 01, "ksrun", for input that comes in blocks: lines are cut as in lines/specs/Feed.antt, and answered by the machine of document 01. The same for
+-- the acts of ksbench. Whole.antt ties both to the whole input.
 use Prim.Native.Nat.{ℕ, suc, _≤_}
 use mathlib.Core.Path.{_≡_}
 use mathlib.Core.List.{List}
@@ -8,6 +8,7 @@ use Rattle.model.specs.Limits.{bufferLimit, lineLimit}
 use Rattle.model.specs.Memory.{State}
 use Rattle.model.specs.Machine.{Outcome, stepped}
 use Rattle.model.specs.Trace.{printed}
+use Rattle.model.specs.Bench.{Act, Manner, lineActs}
 use Rattle.lines.specs.Feed as Lines
 use Rattle.session.specs.declared.cut.Kept.{Kept}
 
@@ -22,7 +23,7 @@ abbrev pub said : State → List ℕ → List ℕ
 said st l = printed (outcome st l)
 
 -- the machine: a line, its next state, and what is printed
-abbrev pub answering : Lines.Machine State
+abbrev pub answering : Lines.Machine State ℕ
 answering = record { answer = λ st l. record { state = outcome st l .state; text = said st l }; limit = lineLimit }
 
 -- between two blocks: the state, and what is kept of the unfinished line
@@ -30,7 +31,7 @@ abbrev pub Held : Type 0
 Held = Lines.Held State
 
 abbrev pub Fed : Type 0
-Fed = Lines.Fed State
+Fed = Lines.Fed State ℕ
 
 -- of a line that is too long, one byte too many is enough
 abbrev pub enough : ℕ
@@ -43,6 +44,20 @@ fed st l block = Lines.fed answering st l block
 -- [ksrun] at the end of the input what is held is a line, unless it is nothing
 unfoldable pub ended : Held → List ℕ
 ended h = Lines.ended answering h
+
+-- ---- the same in a manner: acts
+
+-- the machine: a line, its next state, and its acts
+abbrev pub acting : Manner → Lines.Machine State Act
+acting k = record { answer = λ st l. record { state = outcome st l .state; text = lineActs k st l lent }; limit = lineLimit }
+
+-- [ksbench] what is done for a block, and what is held after it
+abbrev pub fedActs : Manner → State → List ℕ → List ℕ → Lines.Fed State Act
+fedActs k st l block = Lines.fed (acting k) st l block
+
+-- [ksbench] and at the end of the input
+unfoldable pub endedActs : Manner → Held → List Act
+endedActs k h = Lines.ended (acting k) h
 
 -- ---- what the code cuts
 

@@ -1,9 +1,14 @@
 // A block of input, fed to the machine line by line.
 use crate::cut::Kept;
 use crate::cut::keep;
+use crate::due::Due;
+use crate::due::Manner;
+use crate::due::due_of;
+use crate::due::nothing_due;
 use crate::run::run_lines;
 use crate::run::say;
-use engine::line::obey;
+use commands::changed::applied;
+use engine::line::decide;
 use facts::limits::ENOUGH;
 use lines::line_end;
 use model::State;
@@ -22,17 +27,19 @@ pub struct Session {
     pub held: Kept,
 }
 
-// What a block left: the session, how many of its bytes were used, and how many bytes of answers were written.
+// What a block left: the session, how many of its bytes were used, how many bytes of answers were written, and what is due behind them.
 pub struct Fed {
     pub session: Session,
     pub used: usize,
     pub written: usize,
+    pub due: Due,
 }
 
-// One line answered: the next state, and how many bytes were written.
+// One line answered: the next state, how many bytes were written, and what is due behind them.
 pub struct Answer {
     pub state: State,
     pub written: usize,
+    pub due: Due,
 }
 
 fn nothing_held() -> Kept
@@ -44,37 +51,51 @@ fn nothing_held() -> Kept
     }
 }
 
-// A session begins at the factory, with nothing held.
-pub fn begin() -> Session
-    ensures { λ r. ⌜ Begins r ⌝ }
+// A session begins with nothing held.
+pub fn begin_from(state: State) -> Session
+    ensures { λ r. ⌜ (r .state ≡ state) × (r .held .count ≡ 0) ⌝ }
 {
-    let state = machine::start_factory();
     let held = nothing_held();
     Session { state, held }
 }
 
-// The reply as it is, or E and the number.
-fn answer_line(s: State, line: &[u8], out: &mut [u8]) -> Answer
-    requires { ⌜ FineState s ⌝ }
-    requires { ⌜ bufferLimit ≤ length (now out) ⌝ }
-    ensures { λ r. ⌜ Answers s (now (line .entry)) (now (out .entry)) (now (out .exit)) (r .state) (r .written) ⌝ }
+// ksrun's begins at the factory.
+pub fn begin() -> Session
+    ensures { λ r. ⌜ Begins r ⌝ }
 {
-    let r = obey(s, line, out);
-    let state = r.state;
-    let written = say(r.number, r.length, out);
-    Answer { state, written }
+    begin_from(machine::start_factory())
 }
 
-// Whole lines from the start of a block on, while there is room for answers. What is left without an LF is held.
-fn whole_lines(s: State, block: &[u8], out: &mut [u8]) -> Fed
+// The reply as it is, or E and the number.
+fn answer_line(k: Manner, s: State, line: &[u8], out: &mut [u8]) -> Answer
     requires { ⌜ FineState s ⌝ }
     requires { ⌜ bufferLimit ≤ length (now out) ⌝ }
-    ensures { λ r. ⌜ Feeds s [] (now (block .entry)) (now (out .entry)) (now (out .exit)) r ⌝ }
+    ensures { λ r. ⌜ Answers k s (now (line .entry)) (now (out .entry)) (now (out .exit)) r ⌝ }
 {
-    let r = run_lines(s, block, out);
+    let m = s.volatile;
+    let step = decide(m, s.level, s.error, line, out);
+    let decision = step.decision;
+    let written = say(decision.number, step.length, out);
+    let due = due_of(k, decision);
+    let state = applied(s, decision);
+    Answer {
+        state,
+        written,
+        due,
+    }
+}
+
+// Whole lines from the start of a block on, while there is room for answers and nothing is due. What is left without an LF is held.
+fn whole_lines(k: Manner, s: State, block: &[u8], out: &mut [u8]) -> Fed
+    requires { ⌜ FineState s ⌝ }
+    requires { ⌜ bufferLimit ≤ length (now out) ⌝ }
+    ensures { λ r. ⌜ Feeds k s [] (now (block .entry)) (now (out .entry)) (now (out .exit)) r ⌝ }
+{
+    let r = run_lines(k, s, block, out);
     let state = r.state;
     let at = r.used;
     let written = r.written;
+    let due = r.due;
     let end = line_end(block, at);
     if end == block.len() {
         let held = keep(nothing_held(), &block[at..]);
@@ -83,6 +104,7 @@ fn whole_lines(s: State, block: &[u8], out: &mut [u8]) -> Fed
             session,
             used: end,
             written,
+            due,
         };
     }
     let held = nothing_held();
@@ -91,35 +113,39 @@ fn whole_lines(s: State, block: &[u8], out: &mut [u8]) -> Fed
         session,
         used: at,
         written,
+        due,
     }
 }
 
 // A block: first the line that was held, if there is one, then whole lines.
-pub fn feed(s: Session, block: &[u8], out: &mut [u8]) -> Fed
+pub fn feed(k: Manner, s: Session, block: &[u8], out: &mut [u8]) -> Fed
     requires { ⌜ FineState (s .state) ⌝ }
     requires { ⌜ s .held .count ≤ enough ⌝ }
     requires { ⌜ bufferLimit ≤ length (now out) ⌝ }
-    ensures { λ r. ⌜ Feeds (s .state) (take (s .held .count) (s .held .bytes)) (now (block .entry)) (now (out .entry)) (now (out .exit)) r ⌝ }
+    ensures { λ r. ⌜ Feeds k (s .state) (take (s .held .count) (s .held .bytes)) (now (block .entry)) (now (out .entry)) (now (out .exit)) r ⌝ }
 {
     let held = s.held;
     let state = s.state;
     if held.count == 0 {
-        return whole_lines(state, block, out);
+        return whole_lines(k, state, block, out);
     }
     let end = line_end(block, 0);
     let line = keep(held, &block[..end]);
     if end == block.len() {
         let session = Session { state, held: line };
+        let due = nothing_due();
         return Fed {
             session,
             used: end,
             written: 0,
+            due,
         };
     }
     let bytes = line.bytes;
     let count = line.count;
-    let a = answer_line(state, &bytes[..count], out);
+    let a = answer_line(k, state, &bytes[..count], out);
     let after = a.state;
+    let due = a.due;
     let nothing = nothing_held();
     let session = Session {
         state: after,
@@ -129,23 +155,28 @@ pub fn feed(s: Session, block: &[u8], out: &mut [u8]) -> Fed
         session,
         used: end + 1,
         written: a.written,
+        due,
     }
 }
 
-// The end of the input: a line that no LF has ended is answered too.
-pub fn finish(s: Session, out: &mut [u8]) -> usize
+// The end of the input: a line that no LF has ended is answered too, and something may be due behind it.
+pub fn finish(k: Manner, s: Session, out: &mut [u8]) -> Answer
     requires { ⌜ FineState (s .state) ⌝ }
     requires { ⌜ s .held .count ≤ enough ⌝ }
     requires { ⌜ bufferLimit ≤ length (now out) ⌝ }
-    ensures { λ r. ⌜ Ends s (now (out .entry)) (now (out .exit)) r ⌝ }
+    ensures { λ r. ⌜ Ends k s (now (out .entry)) (now (out .exit)) r ⌝ }
 {
     let held = s.held;
     let state = s.state;
     let bytes = held.bytes;
     let count = held.count;
     if count == 0 {
-        return 0;
+        let due = nothing_due();
+        return Answer {
+            state,
+            written: 0,
+            due,
+        };
     }
-    let a = answer_line(state, &bytes[..count], out);
-    a.written
+    answer_line(k, state, &bytes[..count], out)
 }

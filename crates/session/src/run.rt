@@ -1,4 +1,9 @@
-// The lines of a block, one after the other. The state lies open in its parts, and what a line does is done there in place: no line copies the state.
+// The lines of a block, one after the other, until something is due. The state lies open in its parts, and what a line does is done there in place: no line copies the state.
+use crate::due::Due;
+use crate::due::Manner;
+use crate::due::due_of;
+use crate::due::is_due;
+use crate::due::nothing_due;
 use commands::changed::Deed;
 use engine::line::decide;
 use facts::limits::BUFFER_LIMIT;
@@ -21,11 +26,12 @@ ghost use Rattle.model.specs.Trace.{refusalText};
 ghost use Rattle.reply.specs.Lines.{Replied};
 ghost use Rattle.session.specs.Blocks.{Says, Runs};
 
-// What a run left: the state, how many bytes of the block were used, and how many bytes of answers were written.
+// What a run left: the state, how many bytes of the block were used, how many bytes of answers were written, and what is due behind the last of them.
 pub struct Ran {
     pub state: State,
     pub used: usize,
     pub written: usize,
+    pub due: Due,
 }
 
 // E and the number of a refusal.
@@ -49,22 +55,42 @@ pub fn say(number: u8, count: usize, out: &mut [u8]) -> usize
     put_refusal(number, out)
 }
 
-fn joined(volatile: Memory, permanent: Memory, level: u8, error: u8) -> State
-    ensures { λ r. ⌜ r ≡ record { volatile = volatile; permanent = permanent; level = level; error = error } ⌝ }
+// The open parts of the state, put together again.
+fn left_with(
+    volatile: Memory,
+    permanent: Memory,
+    level: u8,
+    error: u8,
+    used: usize,
+    written: usize,
+    due: Due,
+) -> Ran
+    ensures { λ r. ⌜ r ≡ record {
+      state = record { volatile = volatile; permanent = permanent; level = level; error = error };
+      used = used;
+      written = written;
+      due = due;
+    } ⌝ }
 {
-    State {
+    let state = State {
         volatile,
         permanent,
         level,
         error,
+    };
+    Ran {
+        state,
+        used,
+        written,
+        due,
     }
 }
 
-// Whole lines from the start of a block on, while there is room for an answer.
-pub fn run_lines(s: State, block: &[u8], out: &mut [u8]) -> Ran
+// Whole lines from the start of a block on, while there is room for an answer and nothing is due.
+pub fn run_lines(k: Manner, s: State, block: &[u8], out: &mut [u8]) -> Ran
     requires { ⌜ FineState s ⌝ }
     requires { ⌜ bufferLimit ≤ length (now out) ⌝ }
-    ensures { λ r. ⌜ Runs s (now (block .entry)) (now (out .entry)) (now (out .exit)) r ⌝ }
+    ensures { λ r. ⌜ Runs k s (now (block .entry)) (now (out .entry)) (now (out .exit)) r ⌝ }
 {
     let mut volatile = s.volatile;
     let mut permanent = s.permanent;
@@ -72,7 +98,11 @@ pub fn run_lines(s: State, block: &[u8], out: &mut [u8]) -> Ran
     let mut error = s.error;
     let mut used = 0;
     let mut written = 0;
+    let mut due = nothing_due();
     while BUFFER_LIMIT <= out.len() - written {
+        if is_due(due) {
+            break;
+        }
         let end = line_end(block, used);
         if end == block.len() {
             break;
@@ -80,6 +110,7 @@ pub fn run_lines(s: State, block: &[u8], out: &mut [u8]) -> Ran
         let line = &block[used..end];
         let step = decide(volatile, level, error, line, &mut out[written..]);
         let decision = step.decision;
+        due = due_of(k, decision);
         written += say(decision.number, step.length, &mut out[written..]);
         used = end + 1;
         let deed = decision.deed;
@@ -95,10 +126,5 @@ pub fn run_lines(s: State, block: &[u8], out: &mut [u8]) -> Ran
             Deed::Reset => volatile = factory_memory(),
         }
     }
-    let state = joined(volatile, permanent, level, error);
-    Ran {
-        state,
-        used,
-        written,
-    }
+    left_with(volatile, permanent, level, error, used, written, due)
 }

@@ -6,7 +6,7 @@ use borrow.Author.Needs.{needs}
 use lib.ListN.{length}
 use lib.Seq.{length-take-le}
 use Rattle.session.proofs.Rest.{replied-first}
-use Rattle.console.specs.Serve.{Between}
+use Rattle.session.specs.Blocks.{Between}
 use Rattle.console.proofs.run.Statement.{statement}
 use Rattle.console.proofs.run.Tie as tie
 
@@ -19,7 +19,7 @@ abbrev μ-loop : tie.MeasureT-loop
 
 loop-holds : tie.Need-loop-holds Inv-loop μ-loop
 loop-holds c =
-    (c .before .before .large-buffer .ensures, c .before .large-buffer2 .ensures, record { fine = c .begin .ensures .fine; few = c .begin .ensures .few })
+    (c .before .before .large-buffer .ensures, c .before .large-buffer2 .ensures, c .begin .ensures .between)
 
 serve-requires : tie.Need-serve-requires Inv-loop μ-loop
 serve-requires c κs =
@@ -30,13 +30,13 @@ loop-again : tie.Need-loop-again Inv-loop μ-loop
 loop-again c = (search needs, search needs, c .before .before .before .before .serve .ensures .between)
 
 -- the last answer lies in its buffer
-written-within : (k : tie.After-finish Inv-loop μ-loop) → k .finish .result ≤ length (k .finish .last .1 .0)
+written-within : (k : tie.After-finish Inv-loop μ-loop) → k .finish .result .written ≤ length (k .finish .last .1 .1 .0)
 written-within k =
-    let e : 65536 ≡ length (k .finish .last .1 .0) = search needs in
-    omega (arith, e, k .finish .ensures .room, k .before .before .before .loop .inv .1)
+    let e : 65536 ≡ length (k .finish .last .1 .1 .0) = search needs in
+    omega (arith, e, k .finish .ensures .room, k .before .before .before .before .loop .inv .1)
 
 finish-requires : tie.Need-finish-requires Inv-loop μ-loop
-finish-requires c κs = let l = c .before .before .loop in (l .inv .2 .fine, (l .inv .2 .few, omega (arith, l .inv .1)))
+finish-requires c κs = let l = c .before .before .before .loop in (l .inv .2 .fine, (l .inv .2 .few, omega (arith, l .inv .1)))
 
 array-share-prefix-output : tie.Need-array-share-prefix-output Inv-loop μ-loop
 array-share-prefix-output c = written-within (c .before)
@@ -73,6 +73,7 @@ run-spec =
     (λ c. search needs)
     (λ c. search needs)
     loop-again
+    (λ c κs. search needs)
     (λ c. search needs)
     finish-requires
     array-share-prefix-output

@@ -8,8 +8,8 @@ use lib.ListN.{length, take}
 use lib.Seq.{length-take-le, take-all}
 use Rattle.model.proofs.Basics.{true-false}
 use Rattle.lines.proofs.Places.{rest-long}
-use Rattle.session.specs.Blocks.{heldOf}
-use Rattle.console.specs.Serve.{given, Between}
+use Rattle.session.specs.Blocks.{heldOf, Between}
+use Rattle.console.specs.Serve.{given}
 use Rattle.console.proofs.Serving.{given-nothing, part-handed, part-held}
 use Rattle.console.proofs.serve.Statement.{statement}
 use Rattle.console.proofs.serve.Tie as tie
@@ -24,7 +24,7 @@ abbrev μ-loop : tie.MeasureT-loop
 -- the part that was fed
 module _ (k : tie.After-feed Inv-loop μ-loop) where
   abbrev at-loop : tie.At-loop Inv-loop μ-loop
-  at-loop = k .before .before .before .before
+  at-loop = k .before .before .before .before .before
 
   abbrev start : tie.Start Inv-loop μ-loop
   start = at-loop .before .before .before
@@ -36,12 +36,12 @@ module _ (k : tie.After-feed Inv-loop μ-loop) where
   used = omega (arith, k .feed .ensures .within, rest-long (start .args .block .now) (at-loop .loop .at), at-loop .loop .inv .0)
 
   moved : 0 < k .feed .result .used
-  moved = k .feed .ensures .moves (omega (arith, rest-long (start .args .block .now) (at-loop .loop .at), k .before .before .before .loop-test .taken))
+  moved = k .feed .ensures .moves (omega (arith, rest-long (start .args .block .now) (at-loop .loop .at), k .before .before .before .before .loop-test .taken))
 
-  kept-long : length (k .feed .last .1 .1 .0) ≡ length (start .args .out .now)
-  kept-long = let e : length (k .feed .last .1 .1 .0) ≡ length (at-loop .loop .out) = search needs in e ∙ at-loop .loop .inv .2
+  kept-long : length (k .feed .last .1 .1 .1 .0) ≡ length (start .args .out .now)
+  kept-long = let e : length (k .feed .last .1 .1 .1 .0) ≡ length (at-loop .loop .out) = search needs in e ∙ at-loop .loop .inv .2
 
-  written-within : k .feed .result .written ≤ length (k .feed .last .1 .1 .0)
+  written-within : k .feed .result .written ≤ length (k .feed .last .1 .1 .1 .0)
   written-within = omega (arith, k .feed .ensures .room, kept-long, at-loop .loop .inv .2)
 
 loop-holds : tie.Need-loop-holds Inv-loop μ-loop
@@ -49,8 +49,8 @@ loop-holds c = (omega arith, c .before .before .pre .0, refl, given-nothing (c .
 
 feed-requires : tie.Need-feed-requires Inv-loop μ-loop
 feed-requires c κs =
-    let l = c .before .before .before .loop in
-    (l .inv .1 .fine, (l .inv .1 .few, omega (arith, l .inv .2, c .before .before .before .before .before .before .pre .1)))
+    let l = c .before .before .before .before .loop in
+    (l .inv .1 .fine, (l .inv .1 .few, omega (arith, l .inv .2, c .before .before .before .before .before .before .before .pre .1)))
 
 add-end : tie.Need-add-end Inv-loop μ-loop
 add-end c = let k = c .before .before .before in record { fits = omega (arith, used k, start k .good .1 .0 .0) }
@@ -71,7 +71,7 @@ write-answers-requires : tie.Need-write-answers-requires Inv-loop μ-loop
 write-answers-requires c κs =
     let k = c .before .before .before .before .before in
     let l = at-loop k .loop in
-    part-handed (start k .args .s) (start k .args .block .now) (l .session) (l .at) (l .inv .3) _ _ (k .feed .result) (k .feed .ensures) (end k) refl
+    part-handed (start k .args .s) (start k .args .block .now) (l .session) (l .at) (l .inv .3) _ _ (k .feed .result) _ (k .feed .ensures) (end k) refl
 
 returns : tie.Need-returns Inv-loop μ-loop
 returns c =
@@ -89,7 +89,7 @@ loop-again c =
       used k,
       record { fine = f .fine; few = f .few },
       kept-long k,
-      part-held (start k .args .s) (start k .args .block .now) (l .session) (l .at) (l .inv .3) _ _ (k .feed .result) f (end k) refl,
+      part-held (start k .args .s) (start k .args .block .now) (l .session) (l .at) (l .inv .3) _ _ (k .feed .result) _ f (end k) refl,
     )
 
 returns-2 : tie.Need-returns-2 Inv-loop μ-loop
@@ -108,6 +108,7 @@ serve-spec =
     Inv-loop
     μ-loop
     loop-holds
+    (λ c κs. search needs)
     (λ c. search needs)
     (λ c. search needs)
     (λ c. search needs)

@@ -48,7 +48,7 @@ finds-the-last start calls = saved-last (startMemory start) (startState start) c
 
 -- ---- the permanent memory is what the walk finds
 
-call-permanent : (st : State) (c : Call) → called st c .permanent ≡ cond (saves st c) (st .volatile) (st .permanent)
+pub call-permanent : (st : State) (c : Call) → called st c .permanent ≡ cond (saves st c) (st .volatile) (st .permanent)
 unfolding called saves
 call-permanent st (line bytes b) = line-permanent st bytes b
 call-permanent st restarting = restart-permanent st

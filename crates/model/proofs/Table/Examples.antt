@@ -10,8 +10,13 @@ use Rattle.model.specs.Examples.Numbers.{OfNumbers}
 use Rattle.model.specs.Examples.Images.{OfImages}
 use Rattle.model.specs.Examples.Histories.{OfHistories}
 use Rattle.model.specs.Examples.Storage.{OfStorage}
+use Rattle.model.specs.Examples.Bench.{OfBench}
 use Rattle.model.specs.Demand.{changesEnabled, asksToEnable, noneTaken}
 use Rattle.model.specs.Histories.{steadyBy}
+use Rattle.model.specs.Checklist.{asksToSave}
+use Rattle.model.specs.PowerSwitch.{saves}
+use Rattle.model.specs.Reasons.{reason}
+use Rattle.model.specs.Bench.{storedActs, acted, ksbench, gathered, byteOf, poweredOn, fileAfter}
 use Rattle.model.proofs.Open.{definitions-open}
 
 unfoldable sessions-open : Unit {0}
@@ -102,6 +107,31 @@ of-storage : OfStorage
 unfolding sessions-open
 of-storage = record { parts = refl; free = refl; free-zero = refl; answered-as = refl; count-beyond = refl; length-beyond = refl; no-image = refl; no-restart = refl }
 
+of-bench : OfBench
+unfolding sessions-open asksToSave saves reason storedActs acted ksbench gathered byteOf poweredOn fileAfter
+of-bench =
+    record {
+      at-terminal = refl;
+      in-pipe = refl;
+      plain = refl;
+      stored = refl;
+      unstored = refl;
+      missing = refl;
+      found = refl;
+      refused = refl;
+      three = refl;
+      four = refl;
+      five = refl;
+      six = refl;
+      seven = refl;
+      eight = refl;
+      nine = refl;
+      ten = refl;
+      eleven = refl;
+      twelve = refl;
+      thirteen = refl;
+    }
+
 pub examples : Examples
 examples =
-    record { memories = of-memories; poses = of-poses; lines = of-lines; commands = of-commands; lists = of-lists; numbers = of-numbers; images = of-images; histories = of-histories; storage = of-storage }
+    record { memories = of-memories; poses = of-poses; lines = of-lines; commands = of-commands; lists = of-lists; numbers = of-numbers; images = of-images; histories = of-histories; storage = of-storage; bench = of-bench }

@@ -1,4 +1,4 @@
-use mathlib.Core.Path.{sym, ap, _∙_}
+use mathlib.Core.Path.{refl, sym, ap, _∙_}
 use borrow.Author.Needs.{needs}
 use borrow.Author.Tests.{le-leb}
 use Rattle.model.specs.Limits.{nameLimit}
@@ -8,6 +8,7 @@ use Rattle.model.specs.Effects.{withVolatile, withName, changed}
 use Rattle.model.specs.Stored.{bytesOf, memoryOf, stateOf}
 use Rattle.memory.specs.Put.{putAt}
 use Rattle.memory.proofs.ByName.{copied-by-place}
+use Rattle.model.specs.Checklist.{asksToSave}
 use Rattle.commands.proofs.Asked.{place-is}
 use Rattle.commands.proofs.Carried.{decides-refused, decides-put, copy-room, place-few, room}
 use Rattle.commands.proofs.systems.copy.Statement.{statement}
@@ -22,7 +23,7 @@ returns c =
     decides-refused s (copy x to) (j .judge-copy .result) number (c .refused .result) (c .before .if1 .taken) (c .refused .ensures)
 
 returns-2 : tie.Need-returns-2
-unfolding changed
+unfolding changed asksToSave
 returns-2 c =
     let t = c .before .before .before .before in
     let j = t .before in
@@ -41,7 +42,7 @@ returns-2 c =
     decides-put s (copy x to) (j .judge-copy .result) number (c .putting .result) (a .k .second .place) (c .before .renamed .result) (t .if1 .left) (c .putting .ensures)
     (rw (made .1) (le-leb (a .to .len) nameLimit (start .pre .1)))
     (rw y (place-few (s .volatile) x to _ seen to, room (s .volatile) x to _ seen to passed))
-    (ap (withVolatile (stateOf s)) next)
+    (ap (withVolatile (stateOf s)) next) refl
 
 pub copy-spec : {M : Type 1} → statement M
 copy-spec =

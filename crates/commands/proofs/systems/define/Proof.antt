@@ -1,4 +1,4 @@
-use mathlib.Core.Path.{sym, ap, _∙_}
+use mathlib.Core.Path.{refl, sym, ap, _∙_}
 use borrow.Author.Needs.{needs}
 use borrow.Author.Tests.{le-leb}
 use Rattle.model.specs.Limits.{nameLimit}
@@ -7,6 +7,7 @@ use Rattle.model.specs.Request.{Change, define}
 use Rattle.model.specs.Effects.{withVolatile, fresh, changed}
 use Rattle.model.specs.Stored.{bytesOf, memoryOf, stateOf}
 use Rattle.memory.specs.Put.{putAt, holding}
+use Rattle.model.specs.Checklist.{asksToSave}
 use Rattle.commands.proofs.Asked.{place-is}
 use Rattle.commands.proofs.Carried.{decides-refused, decides-put, define-room, place-few, room, defined-by-place}
 use Rattle.commands.proofs.systems.define.Statement.{statement}
@@ -23,7 +24,7 @@ returns c =
     decides-refused s (asked (j .before)) (j .judge-define .result) number (c .refused .result) (c .before .if1 .taken) (c .refused .ensures)
 
 returns-2 : tie.Need-returns-2
-unfolding changed
+unfolding changed asksToSave
 returns-2 c =
     let t = c .before .before .before .before in
     let j = t .before in
@@ -39,7 +40,7 @@ returns-2 c =
     decides-put s (asked (j .before)) (j .judge-define .result) number (c .putting .result) (a .k .first .place) (c .before .fresh-system .result) (t .if1 .left) (c .putting .ensures)
     (rw (made .1) (le-leb (a .n .len) nameLimit (j .before .pre .1)))
     (rw x (place-few (s .volatile) _ _ _ seen (bytesOf (a .n)), room (s .volatile) _ _ _ seen (bytesOf (a .n)) passed))
-    (ap (withVolatile (stateOf s)) next)
+    (ap (withVolatile (stateOf s)) next) refl
 
 pub define-spec : {M : Type 1} → statement M
 define-spec =

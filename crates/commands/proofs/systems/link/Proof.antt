@@ -1,4 +1,4 @@
-use mathlib.Core.Path.{sym, ap, _∙_}
+use mathlib.Core.Path.{refl, sym, ap, _∙_}
 use native.Mathlib.Omega.{arith}
 use borrow.Author.Needs.{needs}
 use Rattle.model.specs.Memory.{systemAt}
@@ -8,6 +8,7 @@ use Rattle.model.specs.Stored.{memoryOf, stateOf}
 use Rattle.model.proofs.Memories.Named.{user-place}
 use Rattle.memory.specs.Put.{putAt}
 use Rattle.memory.proofs.ByName.{linked-by-place}
+use Rattle.model.specs.Checklist.{asksToSave}
 use Rattle.commands.proofs.Asked.{place-is}
 use Rattle.commands.proofs.Carried.{decides-refused, decides-put, link-user, place-few}
 use Rattle.commands.proofs.systems.link.Statement.{statement}
@@ -20,7 +21,7 @@ returns c =
     decides-refused s (link x y) (j .judge-link .result) (j .judge-link .ensures (s .volatile) x y seen (stateOf s) level) (c .refused .result) (c .before .if1 .taken) (c .refused .ensures)
 
 returns-2 : tie.Need-returns-2
-unfolding changed
+unfolding changed asksToSave
 returns-2 c =
     let t = c .before .before .before .before .before in
     let j = t .before in
@@ -37,7 +38,7 @@ returns-2 c =
     decides-put s (link x y) (j .judge-link .result) number (c .putting .result) (a .k .first .place) (c .before .relinked .result) (t .if1 .left) (c .putting .ensures)
     (rw (made .1) (seen .named))
     (rw place (place-few (s .volatile) x y _ seen x, λ z. absurd (omega (arith, z, user-place m x user))))
-    (ap (withVolatile (stateOf s)) next)
+    (ap (withVolatile (stateOf s)) next) refl
 
 pub link-spec : {M : Type 1} → statement M
 link-spec =

@@ -1,11 +1,12 @@
-use mathlib.Core.Path.{sym, ap, _∙_}
+use mathlib.Core.Path.{refl, sym, ap, _∙_}
 use borrow.Author.Needs.{needs}
 use Rattle.model.specs.Request.{remove}
 use Rattle.model.specs.Effects.{withVolatile, removedAt, changed}
 use Rattle.model.specs.Stored.{systemsOf, memoryOf, stateOf}
 use Rattle.model.proofs.Memories.Named.{user-place, place-within}
+use Rattle.model.specs.Checklist.{asksToSave}
 use Rattle.commands.specs.declared.changed.Deed.the-variants.{Remove}
-use Rattle.commands.specs.Done.{done, Fits}
+use Rattle.commands.specs.Done.{done, Fits, saving}
 use Rattle.commands.proofs.Asked.{place-is}
 use Rattle.commands.proofs.Carried.{decides-refused, decides-accepted, remove-user}
 use Rattle.commands.proofs.systems.remove.Statement.{statement}
@@ -18,7 +19,7 @@ returns c =
     decides-refused s (remove x) (j .judge-remove .result) (j .judge-remove .ensures (s .volatile) x y seen (stateOf s) level) (c .refused .result) (c .before .if1 .taken) (c .refused .ensures)
 
 returns-2 : tie.Need-returns-2
-unfolding changed done Fits
+unfolding changed done Fits saving asksToSave
 returns-2 c =
     let t = c .before .before in
     let j = t .before in
@@ -29,7 +30,7 @@ returns-2 c =
     let place = place-is m x _ (seen .first) in
     decides-accepted s (remove x) (j .judge-remove .result) number (c .accepted .result) (Remove (j .before .args .k .first .place)) (t .if1 .left) (c .accepted .ensures)
     (rw place (user-place m x user, place-within (systemsOf (s .volatile)) x))
-    (ap (λ k. withVolatile (stateOf s) (removedAt m k)) place)
+    (ap (λ k. withVolatile (stateOf s) (removedAt m k)) place) refl
 
 pub remove-spec : {M : Type 1} → statement M
 remove-spec =

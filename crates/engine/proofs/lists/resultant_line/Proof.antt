@@ -1,5 +1,5 @@
 -- `resultant_line`: the line of the system that the name finds, or 7.
-use mathlib.Core.Path.{ap, _∙_}
+use mathlib.Core.Path.{refl, ap, _∙_}
 use Rattle.model.specs.declared.Memory.{Memory}
 use Rattle.model.specs.declared.Group.the-variants.{Operating}
 use Rattle.model.specs.Machine.{answered}
@@ -33,7 +33,7 @@ returns-3 : tie.Need-returns-3
 returns-3 c s n e t =
     let a = c .before .before .before .before .before .args in
     let told : Tells (memoryOf (s .volatile)) n (a .x) = rw e t in
-    refusal-taken s _ _ (c .silent .ensures) _ _ _ (absent-answers s n (a .x) told _ (c .before .before .enum-told2 .given .1)) (c .before .refused .ensures)
+    refusal-taken s _ _ (c .silent .ensures) _ _ _ refl _ (absent-answers s n (a .x) told _ (c .before .before .enum-told2 .given .1)) (c .before .refused .ensures)
 
 pub resultant-line-spec : {M : Type 1} → statement M
 resultant-line-spec =

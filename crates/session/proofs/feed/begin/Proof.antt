@@ -11,10 +11,10 @@ use Rattle.session.proofs.feed.begin.Tie as tie
 returns : tie.Need-returns
 returns c =
     let v = view-is (c .before .start-factory .result) startFactory (c .before .start-factory .ensures) in
+    let b = c .begin-from .ensures in
     record {
-      held = rw (v .1, c .nothing-held .ensures) refl;
-      few = omega (arith, c .nothing-held .ensures);
-      fine = record { shape = v .0; formed = rw (v .1) (well-formed-kept .factory) };
+      held = rw (b .0, b .1, v .1) refl;
+      between = record { fine = record { shape = rw (b .0) (v .0); formed = rw (b .0, v .1) (well-formed-kept .factory) }; few = omega (arith, b .1) };
     }
 
 pub begin-spec : {M : Type 1} → statement M

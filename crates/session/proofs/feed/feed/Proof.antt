@@ -25,10 +25,10 @@ start k = k .before .before .before .before .before .before .before .before .bef
 
 returns-2 : tie.Need-returns-2
 returns-2 c =
-    let k = c .before in
+    let k = c .before .before in
     let s = start k in
     let end = k .before .before .line-end in
-    held-on (s .args .s) (s .args .block .now) (s .args .out .now) (end .result) (k .keep .result) (s .pre .0) (s .pre .1 .0) (end .ensures) (c .if2 .taken) (k .keep .ensures)
+    rw (c .nothing-due .ensures) (held-on (s .args .k) (s .args .s) (s .args .block .now) (s .args .out .now) (end .result) (k .keep .result) (s .pre .0) (s .pre .1 .0) (end .ensures) (c .before .if2 .taken) (k .keep .ensures))
 
 few : (k : tie.After-keep) → k .keep .result .count ≤ length (k .keep .result .bytes)
 few k = let e : length (k .keep .result .bytes) ≡ 121 = search needs in omega (arith, e, k .keep .ensures .count)
@@ -43,19 +43,19 @@ slice-aggregate-answer-line c = sym (length-take-le _ _ (few (c .before .before 
 inside : (c : tie.Else2) → c .before .before .before .line-end .result < length (start (c .before) .args .block .now)
 inside c = omega (arith, end-inside _ 0 _ (omega arith) (c .before .before .before .line-end .ensures), c .if2 .left)
 
-add-t20 : tie.Need-add-t20
-add-t20 c =
-    let t = c .before .before .before .before .before .before .before .before in
-    record { fits = omega (arith, inside t, start (t .before) .good .1 .0 .0) }
+add-t23 : tie.Need-add-t23
+add-t23 c =
+    let t = c .before .before .before .before .before .before .before .before .before in
+    record { fits = omega (arith, inside t, start (t .before) .good .1 .1 .0 .0) }
 
 returns-3 : tie.Need-returns-3
 returns-3 c =
-    let t = c .before .before .before .before .before .before .before .before in
+    let t = c .before .before .before .before .before .before .before .before .before in
     let k = t .before in
     let s = start k in
     let end = k .before .before .line-end in
-    let answer = c .before .before .before .before .answer-line in
-    held-ends (s .args .s) (s .args .block .now) (s .args .out .now) _ (end .result) (k .keep .result) (answer .result .state) _ (c .nothing-held .result) (s .pre .1 .0) (end .ensures)
+    let answer = c .before .before .before .before .before .answer-line in
+    held-ends (s .args .k) (s .args .s) (s .args .block .now) (s .args .out .now) _ (end .result) (k .keep .result) (answer .result) (c .nothing-held .result) (s .pre .1 .0) (end .ensures)
     (inside t) (k .keep .ensures) (answer .ensures) (c .nothing-held .ensures)
 
 pub feed-spec : {M : Type 1} → statement M
@@ -68,11 +68,12 @@ feed-spec =
     (λ c κs. search needs)
     slice-aggregate-keep
     (λ c κs. search needs)
+    (λ c κs. search needs)
     returns-2
     array-share-prefix-bytes
     slice-aggregate-answer-line
     (λ c κs. search needs)
     (λ c κs. search needs)
-    add-t20
+    add-t23
     (λ c. search needs)
     returns-3)

@@ -18,8 +18,8 @@ held-long c = length-take-le (c .args .s .held .count) (c .args .s .held .bytes)
 
 returns : tie.Need-returns
 returns c =
-    let start = c .before .before .before .before .before in
-    ends-none (start .args .s) (start .args .out .now) (rw (c .if1 .taken) refl)
+    let start = c .before .before .before .before .before .before in
+    rw (c .nothing-due .ensures) (ends-none (start .args .k) (start .args .s) (start .args .out .now) (start .pre .0) (rw (c .before .if1 .taken) refl))
 
 array-share-prefix-bytes : tie.Need-array-share-prefix-bytes
 array-share-prefix-bytes c = within (c .before .before .before .before .before)
@@ -30,12 +30,14 @@ slice-aggregate-answer-line c = sym (held-long (c .before .before .before .befor
 returns-2 : tie.Need-returns-2
 returns-2 c =
     let start = c .before .before .before .before .before .before .before .before .before .before in
-    ends-answered (start .args .s) (start .args .out .now) _ (c .before .before .answer-line .result .state) _ (omega (arith, held-long start, c .before .before .before .before .before .if1 .left)) (c .before .before .answer-line .ensures)
+    ends-answered (start .args .k) (start .args .s) (start .args .out .now) _ (c .before .before .answer-line .result)
+    (omega (arith, held-long start, c .before .before .before .before .before .if1 .left)) (c .before .before .answer-line .ensures)
 
 pub finish-spec : {M : Type 1} → statement M
 finish-spec =
     tie.close
     (tie.spec
+    (λ c κs. search needs)
     returns
     array-share-prefix-bytes
     slice-aggregate-answer-line

@@ -2,8 +2,8 @@
 use Rattle.model.specs.declared.Memory.{Memory as StoredMemory}
 use Rattle.model.specs.declared.State.{State as StoredState}
 use Prim.Native.Nat.{ℕ, _+_, _-_, _<_}
-use mathlib.Core.Path.{_≡_, refl, ap}
-use mathlib.Core.Logic.{⊎-elim}
+use mathlib.Core.Path.{_≡_, refl, sym, ap, _∙_}
+use mathlib.Core.Logic.{inl, inr, ⊎-elim}
 use native.Mathlib.Omega.{arith}
 use borrow.Author.Needs.{needs}
 use lib.ListN.{length, take, drop}
@@ -11,10 +11,10 @@ use Rattle.model.specs.Stored.{stateOf}
 use Rattle.commands.proofs.Deeds.{put-fits, remove-fits, applied-keep, applied-error, applied-put, applied-remove, applied-enable, applied-level, applied-save, applied-restore, applied-reset}
 use Rattle.lines.specs.Before.{before}
 use Rattle.lines.proofs.Laws.{end-inside}
-use Rattle.session.specs.Blocks.{Run}
+use Rattle.session.specs.Blocks.{Run, nothing}
 use Rattle.session.proofs.Rest.{withRest}
 use Rattle.lines.proofs.Places.{rest-long}
-use Rattle.session.proofs.Running.{run-start}
+use Rattle.session.proofs.Running.{run-start, run-idle, not-due, some-due}
 use Rattle.engine.proofs.Views.{fine-volatile}
 use Rattle.session.proofs.Turning.{Turned, turned}
 use Rattle.session.proofs.run.run_lines.Statement.{statement}
@@ -25,37 +25,47 @@ abbrev stateWith : StoredMemory → StoredMemory → ℕ → ℕ → StoredState
 stateWith v p level error = record { volatile = v; permanent = p; level = level; error = error }
 
 abbrev Inv-loop : tie.InvT-loop
-Inv-loop block out₀ volatile₀ permanent₀ level₀ error₀ used₀ written₀ out volatile permanent level error used written =
-    Run (stateOf (stateWith volatile₀ permanent₀ level₀ error₀)) block out₀ out (stateWith volatile permanent level error) used written
+Inv-loop k block out₀ volatile₀ permanent₀ level₀ error₀ used₀ written₀ due₀ out volatile permanent level error used written due =
+    Run k (stateOf (stateWith volatile₀ permanent₀ level₀ error₀)) block out₀ out (stateWith volatile permanent level error) used written due
 
 abbrev μ-loop : tie.MeasureT-loop
-μ-loop block out₀ volatile₀ permanent₀ level₀ error₀ used₀ written₀ out volatile permanent level error used written =
+μ-loop k block out₀ volatile₀ permanent₀ level₀ error₀ used₀ written₀ due₀ out volatile permanent level error used written due =
     length block - used
 
 loop-holds : tie.Need-loop-holds Inv-loop μ-loop
 loop-holds c =
-    let start = c .before .before .before .before in
-    run-start (start .args .s) (start .args .block .now) (start .args .out .now) (start .pre .0)
+    let start = c .before .before .before .before .before in
+    rw (c .nothing-due .ensures) (run-start (start .args .k) (start .args .s) (start .args .block .now) (start .args .out .now) (start .pre .0))
 
 sub-loop : tie.Need-sub-loop Inv-loop μ-loop
 sub-loop c = omega (arith, c .loop .inv .room, c .loop .inv .long)
 
 line-end-requires : tie.Need-line-end-requires Inv-loop μ-loop
-line-end-requires c κs = c .before .loop .inv .within
+line-end-requires c κs = c .before .before .before .loop .inv .within
 
 -- ---- a line that ends in the block
 
 -- the turn of the loop that it is found in
-abbrev turn : tie.Else1 Inv-loop μ-loop → tie.At-loop Inv-loop μ-loop
-turn c = c .before .before .before
+abbrev turn : tie.Else2 Inv-loop μ-loop → tie.At-loop Inv-loop μ-loop
+turn c = c .before .before .before .before .before
 
 -- and the start of all
-abbrev start : tie.Else1 Inv-loop μ-loop → tie.Start Inv-loop μ-loop
-start c = turn c .before .before .before .before .before
+abbrev start : tie.Else2 Inv-loop μ-loop → tie.Start Inv-loop μ-loop
+start c = turn c .before .before .before .before .before .before
+
+-- nothing is due there
+idle : (c : tie.Else2 Inv-loop μ-loop) →
+    let l = turn c .loop in
+    let a = start c .args in
+    Run (a .k) (stateOf (a .s)) (a .block .now) (a .out .now) (l .out) (stateWith (l .volatile) (l .permanent) (l .level) (l .error)) (l .used) (l .written) nothing
+idle c =
+    let l = turn c .loop in
+    let none = not-due (l .due) (sym (c .before .before .before .is-due .ensures) ∙ c .before .before .if1 .left) in
+    run-idle none (l .inv)
 
 -- its end lies within
-inside : (c : tie.Else1 Inv-loop μ-loop) → c .before .line-end .result < length (start c .args .block .now)
-inside c = omega (arith, end-inside _ _ _ (turn c .loop .inv .within) (c .before .line-end .ensures), c .if1 .left)
+inside : (c : tie.Else2 Inv-loop μ-loop) → c .before .line-end .result < length (start c .args .block .now)
+inside c = omega (arith, end-inside _ _ _ (turn c .loop .inv .within) (c .before .line-end .ensures), c .if2 .left)
 
 part-line-end : tie.Need-part-line-end Inv-loop μ-loop
 part-line-end c = omega (arith, inside c)
@@ -68,48 +78,48 @@ decide-requires c κs = fine-volatile _ (turn (c .before .before) .loop .inv .fi
 
 sub-say : tie.Need-sub-say Inv-loop μ-loop
 sub-say c =
-    let l = turn (c .before .before .before .before .before .before) .loop in
-    omega (arith, c .before .before .out .given .1, l .inv .room, l .inv .long)
+    let l = turn (c .before .before .before .before .before .before .before) .loop in
+    omega (arith, c .before .before .before .out .given .1, l .inv .room, l .inv .long)
 
 say-requires : tie.Need-say-requires Inv-loop μ-loop
 say-requires c κs =
-    let p = c .before .before .before .before .before .before .before in
+    let p = c .before .before .before .before .before .before .before .before in
     let l = turn p .loop in
-    rw (rest-long (withRest (l .out) (l .written) (c .before .before .before .before .decide .last .1 .1 .1 .1 .0)) (l .written))
-    (omega (arith, c .before .before .before .out .given .1, p .before .before .loop-test .taken))
+    rw (rest-long (withRest (l .out) (l .written) (c .before .before .before .before .before .decide .last .1 .1 .1 .1 .0)) (l .written))
+    (omega (arith, c .before .before .before .before .out .given .1, p .before .before .before .before .loop-test .taken))
 
 -- ---- its turn
 
 -- what was decided is said
-abbrev ended : tie.After-slice-known3 Inv-loop μ-loop → tie.Else1 Inv-loop μ-loop
-ended c = c .before .before .before .before .before .before .before .before .before .before
+abbrev ended : tie.After-slice-known3 Inv-loop μ-loop → tie.Else2 Inv-loop μ-loop
+ended c = c .before .before .before .before .before .before .before .before .before .before .before
 
 said : (c : tie.After-slice-known3 Inv-loop μ-loop) →
     let p = ended c in
     let l = turn p .loop in
     let a = start p .args in
-    let step = c .before .before .before .before .before .before .before .decide in
-    Turned (stateOf (a .s)) (a .block .now) (a .out .now)
+    let step = c .before .before .before .before .before .before .before .before .decide in
+    Turned (a .k) (stateOf (a .s)) (a .block .now) (a .out .now)
     (withRest (withRest (l .out) (l .written) (step .last .1 .1 .1 .1 .0)) (l .written) (c .before .before .say .last .1 .1 .0))
-    (stateWith (l .volatile) (l .permanent) (l .level) (l .error)) (step .result .decision) (p .before .line-end .result + 1) (l .written + c .before .before .say .result)
+    (stateWith (l .volatile) (l .permanent) (l .level) (l .error)) (step .result .decision) (p .before .line-end .result + 1) (l .written + c .before .before .say .result) (c .before .before .before .before .due-of .result)
 said c =
     let p = ended c in
     let l = turn p .loop in
     let a = start p .args in
-    let step = c .before .before .before .before .before .before .before .decide in
+    let step = c .before .before .before .before .before .before .before .before .decide in
     let end = p .before .line-end in
     let s = stateWith (l .volatile) (l .permanent) (l .level) (l .error) in
     let size : end .result - l .used ≡ before (drop (l .used) (a .block .now)) = omega (arith, end .ensures) in
-    turned (stateOf (a .s)) (a .block .now) (a .out .now) (l .out) s (l .used) (l .written) (l .inv)
+    turned (a .k) (stateOf (a .s)) (a .block .now) (a .out .now) (l .out) s (l .used) (l .written) (idle p)
     (end .result) (end .ensures) (inside p) _ (ap (λ (k : ℕ). take k (drop (l .used) (a .block .now))) size)
-    (rw (rest-long (l .out) (l .written)) (omega (arith, p .before .before .loop-test .taken)))
-    (step .result) _ (step .ensures s refl refl refl (l .inv .fine)) (c .before .before .before .before .before .before .out .given .0) _ _ (c .before .before .say .ensures) (c .before .out2 .given .0)
+    (rw (rest-long (l .out) (l .written)) (omega (arith, p .before .before .before .before .loop-test .taken)))
+    (step .result) _ (step .ensures s refl refl refl (l .inv .fine)) (c .before .before .before .before .before .before .before .out .given .0) _ _ (c .before .before .say .ensures) (c .before .out2 .given .0) _ (c .before .before .before .before .due-of .ensures)
 
 add-written : tie.Need-add-written Inv-loop μ-loop
-add-written c = record { fits = omega (arith, said c .room, start (ended c) .good .1 .1 .0 .0) }
+add-written c = record { fits = omega (arith, said c .room, start (ended c) .good .1 .1 .1 .0 .0) }
 
 add-used : tie.Need-add-used Inv-loop μ-loop
-add-used c = record { fits = omega (arith, inside (ended c), start (ended c) .good .1 .0 .0) }
+add-used c = record { fits = omega (arith, inside (ended c), start (ended c) .good .1 .1 .0 .0) }
 
 -- less is left of the block
 less : (c : tie.After-slice-known3 Inv-loop μ-loop) →
@@ -124,10 +134,15 @@ same-length c = c .before .before .loop .inv .long
 
 returns : tie.Need-returns Inv-loop μ-loop
 returns c =
-    record {
-      run = rw (c .joined .ensures) (c .before .before .loop .inv);
-      stops = λ h. ⊎-elim (λ w. w .left) (λ w. absurd (omega (arith, h, w .1 .ensures, w .2 .taken))) (c .before .loop-test .came);
-    }
+    rw (c .left-with .ensures) (record {
+      run = c .before .before .loop .inv;
+      stops = λ h. ⊎-elim
+          (λ w. inl (w .left))
+          (⊎-elim
+          (λ w. inr (some-due (c .before .before .loop .due) (sym (w .1 .ensures) ∙ w .2 .taken)))
+          (λ w. absurd (omega (arith, h, w .3 .ensures, w .4 .taken))))
+          (c .before .loop-test .came);
+    })
 
 pub run-lines-spec : {M : Type 1} → statement M
 run-lines-spec =
@@ -135,8 +150,10 @@ run-lines-spec =
     (tie.spec
     Inv-loop
     μ-loop
+    (λ c κs. search needs)
     loop-holds
     sub-loop
+    (λ c κs. search needs)
     line-end-requires
     (λ c. search needs)
     (λ c. search needs)
@@ -145,6 +162,7 @@ run-lines-spec =
     (λ c. search needs)
     (λ c. search needs)
     decide-requires
+    (λ c κs. search needs)
     sub-say
     (λ c. search needs)
     (λ c. search needs)

@@ -1,0 +1,4 @@
+pub mod Placing
+pub mod Marks
+pub mod Ends
+pub mod Examples

@@ -1,0 +1,4 @@
+pub mod Place
+pub mod Load
+pub mod Mark
+pub mod Examples
