@@ -1,5 +1,5 @@
 // One program at a time on one file, by a lock file beside it, which its maker keeps open. A lock whose maker no longer has it open was left behind by a
-// program that was killed; the system tells this, since it shows the descriptors of every process under /proc.
+// program that was killed; the system tells this under /proc, of every process that it shows there.
 use crate::mark::DIGITS;
 use crate::mark::Mark;
 use crate::mark::ROOM;

@@ -169,22 +169,17 @@ pub fn load(path: &[u8], linked: bool, out: &mut [u8]) -> Loaded
     requires { ⌜ longestImage ≤ length (now out) ⌝ }
     ensures { λ r. ⌜ Loads (now (out .entry)) (now (out .exit)) r ⌝ }
 {
-    if no_name(path) {
-        complain(path, b"not the name of a file");
+    if !is_fit(path) {
         return Loaded::Failed;
     }
     if LONGEST_PATH < path.len() {
         complain(path, b"its path is too long");
         return Loaded::Failed;
     }
-    let mode = mode_of(path);
-    if mode == 0 {
+    if mode_of(path) == 0 {
         if absent(path, linked) {
             return Loaded::Missing;
         }
-        return Loaded::Failed;
-    }
-    if !openable(path, mode) {
         return Loaded::Failed;
     }
     open(path, out)
