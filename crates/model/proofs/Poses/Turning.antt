@@ -1,9 +1,8 @@
 -- Rotations compose as they act, and they act on sums. Each law goes by the six cases of one signed axis.
 use mathlib.Core.Path.{_≡_, refl, sym}
 use lib.IntN.{pos, negℤ, _+ℤ_, negℤ-negℤ, negℤ-+ℤ, +ℤ-assoc, +ℤ-idl, +ℤ-idr, +ℤ-invl, +ℤ-invr}
-use Rattle.model.specs.Pose.{flip, coord, row, turned, after, unturned, plus, origin}
-use Rattle.pose.specs.Types.{Dir, Px, Nx, Py, Ny, Pz, Nz, Rot, Vec3}
-use Rattle.pose.specs.Inverse.{minus}
+use Rattle.model.specs.Types.{Dir, Px, Nx, Py, Ny, Pz, Nz, Rot, Vec3}
+use Rattle.model.specs.Pose.{flip, coord, row, turned, after, unturned, plus, minus, origin}
 
 -- ---- composing
 
