@@ -32,12 +32,16 @@ pub record FollowingOn : Type 0 where
       (p q s t : Pose) → Named (p .rot) → Named (q .rot) → Named (s .rot) → Named (t .rot)
       → Alike p q → Alike s t → Alike (followed p s) (followed q t)
 
--- [02 §5] the pose has one inverse: it is such a pose too, it undoes from both sides, and whatever undoes from either side is alike to it
+-- [02 §5] what an inverse is: q undoes p, before it and behind it
+pub record Undoes (q p : Pose) : Type 0 where
+  pub before : Alike (followed q p) neutral
+  pub behind : Alike (followed p q) neutral
+
+-- [02 §5] the pose has one inverse: it is turned by quarters and within the limit too, it undoes, and whatever undoes from either side is alike to it
 pub record OneInverse (p : Pose) : Type 0 where
   pub named : Named (inverse p .rot)
   pub within : offsetsFine (p .at) ≡ true → offsetsFine (inverse p .at) ≡ true
-  pub before : Alike (followed (inverse p) p) neutral
-  pub behind : Alike (followed p (inverse p)) neutral
+  pub undoes : Undoes (inverse p) p
   pub only-before : (q : Pose) → Alike (followed q p) neutral → Alike q (inverse p)
   pub only-behind : (q : Pose) → Alike (followed p q) neutral → Alike q (inverse p)
 

@@ -1,13 +1,12 @@
 -- Document 02 §5: the laws of poses by offset and shown triple. Of named rotations the shown triple tells all, so that alike poses are the same pose.
-use mathlib.Core.Path.{_≡_, refl, sym, ap, subst, _∙_}
-use mathlib.Core.Bool.{Bool, true, _&&_}
+use mathlib.Core.Path.{_≡_, refl, sym, ap, _∙_}
+use mathlib.Core.Bool.{true, _&&_}
 use mathlib.Core.List.{List}
-use mathlib.Core.Logic.{_↔_}
 use Prim.Native.Nat.{ℕ, zero, suc, _+_}
 use native.Mathlib.Omega.{arith}
 use lib.IntN.{ℤ, pos, negsuc, negℤ}
 use Rattle.model.specs.Types.{Dir, Px, Nx, Py, Ny, Pz, Nz, Rot, Vec3}
-use Rattle.model.specs.Pose.{Pose, coord, turned, plus, minus, origin, placed, unturned, neutral, followed, inverse, transposed, shown}
+use Rattle.model.specs.Pose.{Pose, coord, turned, plus, minus, origin, placed, neutral, followed, transposed, shown}
 use Rattle.model.specs.Memory.{System, systemAt}
 use Rattle.model.specs.Chain.{predOf, hop, ownPose, poseOver}
 use Rattle.model.specs.Words.{offset?}
@@ -111,8 +110,7 @@ one-inverse p n =
     record {
       named = transposed-undoes (p .rot) n .named;
       within = λ fine. fine-turned (minus (p .at)) (fine-minus (p .at) fine) (transposed (p .rot));
-      before = alike _ _ (inverse-before p n);
-      behind = alike _ _ (inverse-behind p n);
+      undoes = record { before = alike _ _ (inverse-before p n); behind = alike _ _ (inverse-behind p n) };
       only-before = λ q a. alike _ _ (only-before p n q (none _ a));
       only-behind = λ q a. alike _ _ (only-behind p n q (none _ a));
     }

@@ -2,7 +2,7 @@
 use mathlib.Core.Path.{_≡_, refl, sym, ap, subst, _∙_}
 use mathlib.Core.Bool.{Bool, true}
 use mathlib.Core.Logic.{_↔_}
-use Prim.Native.Nat.{ℕ, zero, suc, _/_, _%_, _≤_, _<_}
+use Prim.Native.Nat.{ℕ, zero, suc, _≤_, _<_}
 use native.Mathlib.Omega.{arith}
 use native.Mathlib.Decide.{decLt}
 use lib.Dec.{T}
@@ -11,8 +11,8 @@ use borrow.Author.Tests.{eq-eqb}
 use Rattle.model.specs.Types.{Dir, Px, Nx, Py, Ny, Pz, Nz, Rot, Turns, Vec3}
 use Rattle.model.specs.Lists.{least}
 use Rattle.model.specs.Pose.{coord, turned, unturned, times, rotOf, axisNumber, sameRot, triple, place, shown}
-use Rattle.model.specs.Arithmetic.{Named, Showing}
-use Rattle.model.proofs.Basics.{least-le, least-hit, least-miss, true-false}
+use Rattle.model.specs.Arithmetic.{Named}
+use Rattle.model.proofs.Basics.{least-hit, least-miss, true-false}
 use Rattle.model.proofs.Poses.Naming.{same-is, at-turns}
 
 pub named-turns : (t : Turns) → Named (rotOf t)
