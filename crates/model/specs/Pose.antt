@@ -91,11 +91,11 @@ neutral = record { at = origin; rot = unturned }
 
 -- [Poses] the predecessor's pose p, R followed by the own pose t, S: p + R·t and R·S
 abbrev pub followed : Pose → Pose → Pose
-followed p t = record { at = plus (p .at) (turned (p .rot) (t .at)); rot = after (p .rot) (t .rot) }
+followed p t = record { at = placed p (t .at); rot = after (p .rot) (t .rot) }
 
 -- ---- the inverse
 
--- the rotation r, but with e as the row that d names
+-- r, but with e as the row that d names
 abbrev pub withRow : Dir → Dir → Rot → Rot
 withRow Px e r = record { a = e; b = r .b; c = r .c }
 withRow Nx e r = record { a = flip e; b = r .b; c = r .c }
@@ -104,9 +104,10 @@ withRow Ny e r = record { a = r .a; b = flip e; c = r .c }
 withRow Pz e r = record { a = r .a; b = r .b; c = e }
 withRow Nz e r = record { a = r .a; b = r .b; c = flip e }
 
--- [02 §5] R takes its new X from the axis that its first row names; what undoes R gives X back to that axis, and Y and Z to theirs: rows become columns
+-- [02 §5] rows become columns. A rotation takes its new X from the axis that its first row names; what undoes it gives X back to that axis, and Y and Z to
+-- theirs. (Its rows name each axis once, so that every row is replaced.)
 abbrev pub transposed : Rot → Rot
-transposed r = withRow (r .a) Px (withRow (r .b) Py (withRow (r .c) Pz unturned))
+transposed r = withRow (r .a) Px (withRow (r .b) Py (withRow (r .c) Pz r))
 
 -- [02 §5] the inverse of p, R: −R⁻¹·p and R⁻¹
 abbrev pub inverse : Pose → Pose

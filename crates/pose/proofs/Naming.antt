@@ -1,10 +1,10 @@
--- Rotations by their numbers, and the shown triple by its turns.
-use mathlib.Core.Path.{_≡_, ap, _∙_}
+-- Rotations by their numbers, quarter turns by what is left of whole ones, and the shown triple by its turns.
+use mathlib.Core.Path.{_≡_, sym, ap, _∙_}
 use Prim.Native.Nat.{ℕ, _+_, _*_, _/_, _%_, _≤_, _<_}
 use native.Mathlib.Omega.{arith}
 use Rattle.model.proofs.Basics.{least-le}
-use Rattle.model.proofs.Poses.Naming.{axisAt, axisAt-number}
-use Rattle.model.specs.Pose.{rotOf, axisNumber, sameRot, triple, shown}
+use Rattle.model.proofs.Poses.Naming.{axisAt, axisAt-number, times-quarters}
+use Rattle.model.specs.Pose.{after, unturned, times, rotOf, axisNumber, sameRot, triple, shown}
 use Rattle.pose.specs.Types.{Dir, Px, Nx, Py, Ny, Pz, Nz, Rot}
 use Rattle.pose.specs.Poses.{Quarters}
 
@@ -37,6 +37,15 @@ rotAt-number r =
       b = (ap axisAt (d .1) ∙ axisAt-number (r .b)) i;
       c = (ap axisAt (d .2) ∙ axisAt-number (r .c)) i;
     }
+
+-- ---- so many turns by what is left of them, and after a rotation
+
+module _ (q : Rot) (four : after q (after q (after q q)) ≡ unturned) where
+  pub times-left : (n k : ℕ) → n % 4 ≡ k → times n q ≡ times k q
+  times-left n k e = times-quarters q four n ∙ ap (λ (j : ℕ). times j q) e
+
+  pub after-left : (s : Rot) (n k : ℕ) → n % 4 ≡ k → after (times k q) s ≡ after (times n q) s
+  after-left s n k e = ap (λ (r : Rot). after r s) (sym (times-left n k e))
 
 -- ---- the shown triple is one of the 64
 

@@ -1,4 +1,4 @@
-// A pose: where a system stands and how it is turned; and following one pose on from another.
+// A pose: where a system stands and how it is turned; following one pose on from another, and the inverse.
 ghost use mathlib.Core.Path.{_≡_};
 ghost use Rattle.model.specs.Pose.{plus, minus, rotOf, origin, neutral, followed, inverse};
 ghost use Rattle.pose.specs.Poses.{poseOf, Within, widest, reach};
@@ -92,7 +92,7 @@ impl Pose {
         Pose { at, rot }
     }
 
-    // The pose that undoes this one, from either side.
+    // The pose that undoes this one, from either side (where its axes are a rotation).
     pub fn inverse(self) -> Pose
         requires { ⌜ Within widest (self .at) ⌝ }
         ensures { λ r. ⌜ poseOf r ≡ inverse (poseOf self) ⌝ }

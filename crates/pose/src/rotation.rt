@@ -4,7 +4,6 @@ ghost use Prim.Native.Nat.{_<_};
 ghost use Rattle.model.specs.Pose.{flip, row, coord, after, turned, withRow, transposed, times, quarterX, quarterY, quarterZ, axisNumber, rotOf, shown};
 ghost use Rattle.pose.specs.Poses.{Within, widest};
 ghost use Rattle.pose.specs.Numbers.{firstNamed};
-use crate::Pose;
 use model::Dir;
 use model::Rot;
 use model::Turns;
@@ -66,7 +65,7 @@ fn coord_of(d: Dir, v: Vec3) -> i64
     }
 }
 
-// The rotation r, but with e as the row that d names.
+// r, but with e as the row that d names.
 fn with_row(d: Dir, e: Dir, r: Rot) -> Rot
     ensures { λ s. ⌜ s ≡ withRow d e r ⌝ }
 {
@@ -95,14 +94,14 @@ fn with_row(d: Dir, e: Dir, r: Rot) -> Rot
     }
 }
 
-// Rows become columns: what undoes r.
+// Rows become columns; of a rotation, what undoes it.
 pub fn transpose(r: Rot) -> Rot
     ensures { λ s. ⌜ s ≡ transposed r ⌝ }
 {
     let a = r.a;
     let b = r.b;
     let c = r.c;
-    let z = with_row(c, Dir::Pz, Pose::NEUTRAL.rot);
+    let z = with_row(c, Dir::Pz, r);
     let yz = with_row(b, Dir::Py, z);
     with_row(a, Dir::Px, yz)
 }

@@ -2,32 +2,35 @@
 use mathlib.Core.Path.{_≡_, refl, sym, ap, _∙_}
 use mathlib.Core.Bool.{true, _&&_}
 use mathlib.Core.List.{List}
-use Prim.Native.Nat.{ℕ, zero, suc, _+_}
+use Prim.Native.Nat.{ℕ, zero, suc, _+_, _≤_}
 use native.Mathlib.Omega.{arith}
 use lib.IntN.{ℤ, pos, negsuc, negℤ}
 use Rattle.model.specs.Types.{Dir, Px, Nx, Py, Ny, Pz, Nz, Rot, Vec3}
 use Rattle.model.specs.Pose.{Pose, coord, turned, plus, minus, origin, placed, neutral, followed, transposed, shown}
 use Rattle.model.specs.Memory.{System, systemAt}
-use Rattle.model.specs.Chain.{predOf, hop, ownPose, poseOver}
+use Rattle.model.specs.Chain.{predOf, hop, steps, ownPose, poseOver, resultant}
 use Rattle.model.specs.Words.{offset?}
 use Rattle.model.specs.WellFormed.{offsetsFine}
 use Rattle.model.specs.Arithmetic.{Alike, Named, FollowingOn, OneInverse, Showing, Regrouping, Arithmetic}
 use Rattle.model.proofs.Basics.{and-split, and-join}
+use Rattle.model.proofs.Chains.Hops.{ring-free}
+use Rattle.model.proofs.Chains.Steps.{Ends, ends-pred, steps-zero, steps-pred, resultant-pred}
+use Rattle.model.proofs.Memories.Fine.{fine-of}
 use Rattle.model.proofs.Poses.Turning.{plus-assoc, origin-plus, minus-plus}
-use Rattle.model.proofs.Poses.Showing.{named-turns, shown-names, shown-first, shown-tells, shown-unturned, shown-alike, turned-tells}
+use Rattle.model.proofs.Poses.Showing.{named-turns, place-triple, shown-names, shown-first, shown-tells, shown-unturned, shown-alike, turned-tells}
 use Rattle.model.proofs.Poses.Laws.{placed-followed, follow-assoc, neutral-before, neutral-behind, named-after, named-unturned, transposed-undoes, inverse-before, inverse-behind, only-before, only-behind}
 
 -- ---- alike and the same
 
 alike : (p q : Pose) → p ≡ q → Alike p q
-alike p q e = record { offset = ap (λ (s : Pose). s .at) e; triple = ap (λ (s : Pose). shown (s .rot)) e }
+alike p q e = record { offset = ap (λ (s : Pose). s .at) e; turns = ap (λ (s : Pose). shown (s .rot)) e }
 
 one : (p q : Pose) → Named (p .rot) → Named (q .rot) → Alike p q → p ≡ q
-one p q m n a = λ i. record { at = a .offset i; rot = shown-tells (p .rot) (q .rot) m n (a .triple) i }
+one p q m n a = λ i. record { at = a .offset i; rot = shown-tells (p .rot) (q .rot) m n (a .turns) i }
 
 -- whatever is alike to the neutral pose is neutral
 none : (p : Pose) → Alike p neutral → p ≡ neutral
-none p a = λ i. record { at = a .offset i; rot = shown-unturned (p .rot) (a .triple) i }
+none p a = λ i. record { at = a .offset i; rot = shown-unturned (p .rot) (a .turns) i }
 
 -- ---- poses by how they place points
 
@@ -92,6 +95,17 @@ cut-over l i (suc j) q =
     ap (λ (n : ℕ). poseOver l n q) e ∙ ap (λ (s : Pose). followed s (ownPose l q)) (cut-over l i j p) ∙
     follow-assoc (poseOver l i (hop l j p)) (poseOver l j p) (ownPose l q)
 
+cut-resultant : (l : List System) (q j : ℕ) → Ends l q → j ≤ steps l q → resultant l q ≡ followed (resultant l (hop l j q)) (poseOver l j q)
+unfolding poseOver hop
+cut-resultant l q zero e h = sym (neutral-behind (resultant l q))
+cut-resultant l zero (suc j) e h = let z = steps-zero l in absurd (omega arith)
+cut-resultant l (suc k) (suc j) e h =
+    let q = suc k in
+    let p = predOf l q in
+    let s = steps-pred l q (omega arith) e in
+    resultant-pred l q (omega arith) e ∙ ap (λ (s : Pose). followed s (ownPose l q)) (cut-resultant l p j (ends-pred l q e) (omega arith)) ∙
+    follow-assoc (resultant l (hop l j p)) (poseOver l j p) (ownPose l q)
+
 -- ---- the claims
 
 following-on : FollowingOn
@@ -120,12 +134,13 @@ showing =
     record {
       names = shown-names;
       first = shown-first;
-      alike = shown-alike;
+      order = place-triple;
+      triples = shown-alike;
       poses = λ p q m n. ((λ a v. ap (λ (s : Pose). placed s v) (one p q m n a)), (λ h. alike p q (placed-tells p q h)));
     }
 
 regrouping : Regrouping
-regrouping = record { named = named-over; cut = λ l i j q. alike _ _ (cut-over l i j q) }
+regrouping = record { named = named-over; resultants = λ m fine q j h below. alike _ _ (cut-resultant (m .systems) q j (ring-free (m .systems) (fine-of m fine .ringless) q h) below); pieces = λ l i j q. alike _ _ (cut-over l i j q) }
 
 pub arithmetic-of-poses : Arithmetic
 arithmetic-of-poses = record { following = following-on; undoing = one-inverse; showing = showing; regrouping = regrouping }

@@ -6,7 +6,7 @@ use native.Mathlib.Omega.{arith}
 use lib.Dec.{T, eqb, eqb→eq}
 use mir.Facts.{and-yes}
 use Rattle.model.specs.Types.{Dir, Px, Nx, Py, Ny, Pz, Nz, Rot, Turns}
-use Rattle.model.specs.Pose.{after, unturned, times, quarterX, quarterY, quarterZ, rotOf, axisNumber, sameRot, triple}
+use Rattle.model.specs.Pose.{after, unturned, times, quarterX, quarterY, quarterZ, rotOf, axisNumber, sameRot, triple, place}
 use Rattle.model.proofs.Upto.{upto, at}
 use Rattle.model.proofs.Poses.Turning.{after-assoc}
 
@@ -62,19 +62,12 @@ module _ (q : Rot) (four : after q (after q (after q q)) ≡ unturned) where
   pub times-quarters : (n : ℕ) → times n q ≡ times (n % 4) q
   times-quarters n = let e : n ≡ n / 4 * 4 + n % 4 = omega arith in ap (λ (j : ℕ). times j q) e ∙ rounds (n / 4) (n % 4)
 
-  -- so many turns by what is left of them, and after a rotation
-  pub times-left : (n k : ℕ) → n % 4 ≡ k → times n q ≡ times k q
-  times-left n k e = times-quarters n ∙ ap (λ (j : ℕ). times j q) e
-
-  pub after-left : (s : Rot) (n k : ℕ) → n % 4 ≡ k → after (times k q) s ≡ after (times n q) s
-  after-left s n k e = ap (λ (r : Rot). after r s) (sym (times-left n k e))
-
 -- a triple's place among the 64, four quarter turns counting as none
-abbrev tripleNumber : Turns → ℕ
-tripleNumber t = t .u % 4 * 16 + t .v % 4 * 4 + t .w % 4
+abbrev pub tripleNumber : Turns → ℕ
+tripleNumber t = place (record { u = t .u % 4; v = t .v % 4; w = t .w % 4 })
 
 -- whole turns do not count: any triple names what the one of the 64 at its number does
-rotOf-number : (t : Turns) → rotOf (triple (tripleNumber t)) ≡ rotOf t
+pub rotOf-number : (t : Turns) → rotOf (triple (tripleNumber t)) ≡ rotOf t
 unfolding rotOf
 rotOf-number t =
     let k = tripleNumber t in

@@ -13,7 +13,7 @@ use Rattle.model.specs.Lists.{least}
 use Rattle.model.specs.Pose.{coord, turned, unturned, times, rotOf, axisNumber, sameRot, triple, place, shown}
 use Rattle.model.specs.Arithmetic.{Named}
 use Rattle.model.proofs.Basics.{least-hit, least-miss, true-false}
-use Rattle.model.proofs.Poses.Naming.{same-is, at-turns}
+use Rattle.model.proofs.Poses.Naming.{same-is, tripleNumber, rotOf-number, at-turns}
 
 pub named-turns : (t : Turns) → Named (rotOf t)
 named-turns t = record { name = t; is = refl }
@@ -42,20 +42,29 @@ shown-tells r s m n e = sym (shown-names r m) ∙ ap rotOf e ∙ shown-names s n
 abbrev firstOf : Rot → ℕ
 firstOf r = least 63 (λ k. sameRot (rotOf (triple k)) r)
 
-place-triple : (k : ℕ) → place (triple k) ≡ k
+pub place-triple : (k : ℕ) → place (triple k) ≡ k
 place-triple k = omega arith
 
 same-self : (r : Rot) → sameRot r r ≡ true
 unfolding sameRot
 same-self r = rw (eq-eqb (axisNumber (r .a)) (axisNumber (r .a)) refl, eq-eqb (axisNumber (r .b)) (axisNumber (r .b)) refl, eq-eqb (axisNumber (r .c)) (axisNumber (r .c)) refl) refl
 
-pub shown-first : (r : Rot) (k : ℕ) → rotOf (triple k) ≡ r → place (shown r) ≤ k
-unfolding shown
-shown-first r k e = rw (place-triple (firstOf r)) (go (decLt k (firstOf r)))
+-- no triple of the 64 that names r stands before it
+not-before : (r : Rot) (k : ℕ) → rotOf (triple k) ≡ r → firstOf r ≤ k
+not-before r k e = go (decLt k (firstOf r))
   where
+    names : sameRot (rotOf (triple k)) r ≡ true
+    names = subst (λ (o : Rot). sameRot (rotOf (triple k)) o ≡ true) e (same-self (rotOf (triple k)))
+
     go : Dec (k < firstOf r) → firstOf r ≤ k
-    go (yes h) = true-false (sym (subst (λ (o : Rot). sameRot (rotOf (triple k)) o ≡ true) e (same-self (rotOf (triple k)))) ∙ least-miss 63 (λ j. sameRot (rotOf (triple j)) r) k h)
+    go (yes h) = true-false (sym names ∙ least-miss 63 (λ j. sameRot (rotOf (triple j)) r) k h)
     go (no h) = omega arith
+
+pub shown-first : (t : Turns) → place (shown (rotOf t)) ≤ place t
+unfolding shown
+shown-first t =
+    let r = rotOf t in
+    rw (place-triple (firstOf r)) (omega (arith, not-before r (tripleNumber t) (rotOf-number t)))
 
 -- no turn is the only rotation that is shown as none
 pub shown-unturned : (r : Rot) → shown r ≡ shown unturned → r ≡ unturned

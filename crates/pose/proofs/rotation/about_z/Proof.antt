@@ -2,7 +2,7 @@
 use mathlib.Core.Path.{refl, sym}
 use native.Mathlib.Omega.{arith}
 use Rattle.model.specs.Pose.{times, quarterZ}
-use Rattle.model.proofs.Poses.Naming.{times-left}
+use Rattle.pose.proofs.Naming.{times-left}
 use Rattle.pose.proofs.rotation.about_z.Statement.{statement}
 use Rattle.pose.proofs.rotation.about_z.Tie as tie
 
