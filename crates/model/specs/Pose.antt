@@ -109,7 +109,7 @@ withRow Nz e r = record { a = r .a; b = r .b; c = flip e }
 abbrev pub transposed : Rot → Rot
 transposed r = withRow (r .a) Px (withRow (r .b) Py (withRow (r .c) Pz r))
 
--- [02 §5] the inverse of p, R: −R⁻¹·p and R⁻¹
+-- [02 §5] the inverse of p, R: R⁻¹·(−p) and R⁻¹
 abbrev pub inverse : Pose → Pose
 inverse p = record { at = turned (transposed (p .rot)) (minus (p .at)); rot = transposed (p .rot) }
 
