@@ -10,7 +10,7 @@ use Rattle.model.specs.Memory.{System, Memory}
 use Rattle.model.specs.Chain.{hop, steps, poseOver, resultant}
 use Rattle.model.specs.WellFormed.{offsetsFine, memoryFine}
 
--- [02 §5] how poses are compared: by offset and shown triple
+-- [02 §5] the comparison in every law: one offset and one shown triple
 pub record Alike (p q : Pose) : Type 0 where
   pub offset : p .at ≡ q .at
   pub turns : shown (p .rot) ≡ shown (q .rot)
@@ -45,8 +45,8 @@ pub record OneInverse (p : Pose) : Type 0 where
   pub only-before : (q : Pose) → Alike (followed q p) neutral → Alike q (inverse p)
   pub only-behind : (q : Pose) → Alike (followed p q) neutral → Alike q (inverse p)
 
--- [02 §5; Poses] the shown triple names the rotation, and is the first in dictionary order that does. Two triples are shown alike exactly when they turn
--- every point alike; and two poses are alike exactly when they place every point alike, so that nothing is lost by comparing them so.
+-- [02 §5; Poses] the shown triple names the rotation, and is the first in dictionary order that does. Triples are shown alike exactly when no point
+-- tells them apart; and poses are alike exactly when no point does, so that nothing is lost by comparing them so.
 pub record Showing : Type 0 where
   pub names : (r : Rot) → Named r → rotOf (shown r) ≡ r
   pub first : (t : Turns) → place (shown (rotOf t)) ≤ place t
