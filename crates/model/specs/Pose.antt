@@ -1,5 +1,5 @@
--- Document 01, "Poses and chains": quarter turns, rotations, poses, and the shown triple.
-use Rattle.model.specs.Base.{ℕ, zero, suc, _/_, _%_, Bool, _&&_, ℤ, pos, negℤ, _+ℤ_, eqb}
+-- Document 01, "Poses and chains": quarter turns, rotations, poses, and the shown triple; with the inverse of document 02 §5.
+use Rattle.model.specs.Base.{ℕ, zero, suc, _+_, _*_, _/_, _%_, Bool, _&&_, ℤ, pos, negℤ, _+ℤ_, eqb}
 use Rattle.model.specs.Types.{Dir, Px, Nx, Py, Ny, Pz, Nz, Rot, Vec3, Turns}
 use Rattle.model.specs.Lists.{least}
 
@@ -67,7 +67,7 @@ rotOf t = after (times (t .u) quarterX) (after (times (t .v) quarterY) (times (t
 
 -- ---- poses
 
--- [Poses] an offset p and a rotation R: what stands at q in the system's own axes stands at p + R·q in those of its predecessor
+-- [Poses] an offset p and a rotation R
 pub record Pose : Type 0 where
   pub at : Vec3
   pub rot : Rot
@@ -75,8 +75,15 @@ pub record Pose : Type 0 where
 abbrev pub plus : Vec3 → Vec3 → Vec3
 plus p q = record { x = p .x +ℤ q .x; y = p .y +ℤ q .y; z = p .z +ℤ q .z }
 
+abbrev pub minus : Vec3 → Vec3
+minus p = record { x = negℤ (p .x); y = negℤ (p .y); z = negℤ (p .z) }
+
 abbrev pub origin : Vec3
 origin = record { x = pos 0; y = pos 0; z = pos 0 }
+
+-- [Poses] what stands at q in the system's own axes stands at p + R·q in those of its predecessor
+abbrev pub placed : Pose → Vec3 → Vec3
+placed p q = plus (p .at) (turned (p .rot) q)
 
 -- [Poses] the pose that changes nothing
 abbrev pub neutral : Pose
@@ -84,7 +91,27 @@ neutral = record { at = origin; rot = unturned }
 
 -- [Poses] the predecessor's pose p, R followed by the own pose t, S: p + R·t and R·S
 abbrev pub followed : Pose → Pose → Pose
-followed p t = record { at = plus (p .at) (turned (p .rot) (t .at)); rot = after (p .rot) (t .rot) }
+followed p t = record { at = placed p (t .at); rot = after (p .rot) (t .rot) }
+
+-- ---- the inverse
+
+-- r, but with e as the row that d names
+abbrev pub withRow : Dir → Dir → Rot → Rot
+withRow Px e r = record { a = e; b = r .b; c = r .c }
+withRow Nx e r = record { a = flip e; b = r .b; c = r .c }
+withRow Py e r = record { a = r .a; b = e; c = r .c }
+withRow Ny e r = record { a = r .a; b = flip e; c = r .c }
+withRow Pz e r = record { a = r .a; b = r .b; c = e }
+withRow Nz e r = record { a = r .a; b = r .b; c = flip e }
+
+-- [02 §5] rows become columns. A rotation takes its new X from the axis that its first row names; what undoes it gives X back to that axis, and Y and Z to
+-- theirs. (Its rows name each axis once, so that every row is replaced.)
+abbrev pub transposed : Rot → Rot
+transposed r = withRow (r .a) Px (withRow (r .b) Py (withRow (r .c) Pz r))
+
+-- [02 §5] the inverse of p, R: R⁻¹·(−p) and R⁻¹
+abbrev pub inverse : Pose → Pose
+inverse p = record { at = turned (transposed (p .rot)) (minus (p .at)); rot = transposed (p .rot) }
 
 -- ---- the shown triple: the first of the 64 in dictionary order that names the rotation
 
@@ -102,6 +129,10 @@ sameRot r s = eqb (axisNumber (r .a)) (axisNumber (s .a)) && eqb (axisNumber (r 
 -- [Poses] the k-th triple in dictionary order
 abbrev pub triple : ℕ → Turns
 triple k = record { u = k / 16; v = k / 4 % 4; w = k % 4 }
+
+-- [Poses] the place in dictionary order of a triple of 0 to 3 quarter turns
+abbrev pub place : Turns → ℕ
+place t = t .u * 16 + t .v * 4 + t .w
 
 -- [Poses] the first triple that names the rotation (63, the last, if no earlier one does)
 unfoldable pub shown : Rot → Turns

@@ -3,7 +3,7 @@ use Prim.Native.Nat.{ℕ, _+_, _≤_}
 use native.Mathlib.Omega.{arith}
 use lib.IntN.{natAbs}
 use Rattle.signed.proofs.Sizes.{natAbs-neg}
-use Rattle.model.specs.Pose.{Pose, coord, turned, plus, origin, followed}
+use Rattle.model.specs.Pose.{Pose, coord, turned, plus, minus, origin, followed}
 use Rattle.pose.specs.Types.{Dir, Px, Nx, Py, Ny, Pz, Nz, Rot, Vec3}
 use Rattle.pose.specs.Poses.{Within}
 use Rattle.pose.proofs.Sums.{natAbs-add}
@@ -25,6 +25,10 @@ within-coord h Nz v w = rw (natAbs-neg (v .z)) (w .z-within)
 pub within-turned : (h : ℕ) (r : Rot) (v : Vec3) → Within h v → Within h (turned r v)
 within-turned h r v w =
     record { x-within = within-coord h (r .a) v w; y-within = within-coord h (r .b) v w; z-within = within-coord h (r .c) v w }
+
+-- (the opposite of a point is what three mirrored axes make of it)
+pub within-minus : (h : ℕ) (v : Vec3) → Within h v → Within h (minus v)
+within-minus h v w = within-turned h (record { a = Nx; b = Ny; c = Nz }) v w
 
 pub within-plus : (h k : ℕ) (v w : Vec3) → Within h v → Within k w → Within (h + k) (plus v w)
 within-plus h k v w hv hw =

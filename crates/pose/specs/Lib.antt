@@ -2,5 +2,3 @@
 pub mod Types
 pub mod Poses
 pub mod Numbers
-pub mod Inverse
-pub mod Claims

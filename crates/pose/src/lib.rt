@@ -1,7 +1,7 @@
-// A pose: where a system stands and how it is turned; and following one pose on from another.
+// A pose: where a system stands and how it is turned; following one pose on from another, and the inverse.
 ghost use mathlib.Core.Path.{_≡_};
-ghost use Rattle.model.specs.Pose.{plus, rotOf, origin, neutral, followed};
-ghost use Rattle.pose.specs.Poses.{poseOf, Within, reach};
+ghost use Rattle.model.specs.Pose.{plus, minus, rotOf, origin, neutral, followed, inverse};
+ghost use Rattle.pose.specs.Poses.{poseOf, Within, widest, reach};
 use model::Dir;
 use model::Rot;
 use model::Turns;
@@ -24,6 +24,18 @@ pub fn sum(p: Vec3, q: Vec3) -> Vec3
         x: p.x + q.x,
         y: p.y + q.y,
         z: p.z + q.z,
+    }
+}
+
+// −p
+fn opposite(p: Vec3) -> Vec3
+    requires { ⌜ Within widest p ⌝ }
+    ensures { λ r. ⌜ r ≡ minus p ⌝ }
+{
+    Vec3 {
+        x: -p.x,
+        y: -p.y,
+        z: -p.z,
     }
 }
 
@@ -78,5 +90,17 @@ impl Pose {
         let at = sum(p, turned);
         let rot = rotation::compose(r, s);
         Pose { at, rot }
+    }
+
+    // The pose that undoes this one, from either side (where its axes are a rotation).
+    pub fn inverse(self) -> Pose
+        requires { ⌜ Within widest (self .at) ⌝ }
+        ensures { λ r. ⌜ poseOf r ≡ inverse (poseOf self) ⌝ }
+    {
+        let p = self.at;
+        let back = rotation::transpose(self.rot);
+        let away = opposite(p);
+        let at = rotation::turn(back, away);
+        Pose { at, rot: back }
     }
 }

@@ -1,7 +1,7 @@
 // Rotations of the cube by rows, and the triples of quarter turns that name them.
 ghost use mathlib.Core.Path.{_≡_};
 ghost use Prim.Native.Nat.{_<_};
-ghost use Rattle.model.specs.Pose.{flip, row, coord, after, turned, times, quarterX, quarterY, quarterZ, axisNumber, rotOf, shown};
+ghost use Rattle.model.specs.Pose.{flip, row, coord, after, turned, withRow, transposed, times, quarterX, quarterY, quarterZ, axisNumber, rotOf, shown};
 ghost use Rattle.pose.specs.Poses.{Within, widest};
 ghost use Rattle.pose.specs.Numbers.{firstNamed};
 use model::Dir;
@@ -63,6 +63,47 @@ fn coord_of(d: Dir, v: Vec3) -> i64
         Dir::Pz => v.z,
         Dir::Nz => -v.z,
     }
+}
+
+// r, but with e as the row that d names.
+fn with_row(d: Dir, e: Dir, r: Rot) -> Rot
+    ensures { λ s. ⌜ s ≡ withRow d e r ⌝ }
+{
+    let a = r.a;
+    let b = r.b;
+    let c = r.c;
+    match d {
+        Dir::Px => Rot { a: e, b, c },
+        Dir::Nx => Rot {
+            a: flipped(e),
+            b,
+            c,
+        },
+        Dir::Py => Rot { a, b: e, c },
+        Dir::Ny => Rot {
+            a,
+            b: flipped(e),
+            c,
+        },
+        Dir::Pz => Rot { a, b, c: e },
+        Dir::Nz => Rot {
+            a,
+            b,
+            c: flipped(e),
+        },
+    }
+}
+
+// Rows become columns; of a rotation, what undoes it.
+pub fn transpose(r: Rot) -> Rot
+    ensures { λ s. ⌜ s ≡ transposed r ⌝ }
+{
+    let a = r.a;
+    let b = r.b;
+    let c = r.c;
+    let z = with_row(c, Dir::Pz, r);
+    let yz = with_row(b, Dir::Py, z);
+    with_row(a, Dir::Px, yz)
 }
 
 // R·t: a rotation applied to a column.

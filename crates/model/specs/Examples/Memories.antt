@@ -1,5 +1,7 @@
--- Document 01, "Memory and state" and "Poses and chains", by examples.
-use Rattle.model.specs.Base.{[], _∷_}
+-- Document 01, "Memory and state" and "Poses and chains", by examples; among poses those of document 02 §5.
+use mathlib.Core.Path.{_≡_}
+use Rattle.model.specs.Base.{[], _∷_, pos, negℤ}
+use Rattle.model.specs.Pose.{rotOf, inverse}
 use Rattle.model.specs.Sessions.{replies, lists, taken, number, _⇒_, restarts, Session}
 
 -- ---- "Memory and state"
@@ -68,3 +70,22 @@ pub record OfPoses : Type 0 where
       "KSD A X 1" ⇒ taken ∷ "KSD B Y -2" ⇒ taken ∷ "KSD C Z 0.5" ⇒ taken ∷ "KLN B A" ⇒ taken ∷ "KLN C B" ⇒ taken
       ∷ "KLT? C" ⇒ replies "Name=C EndCoordinateSystem=ZERO X=1.000000 Y=-2.000000 Z=0.500000 U=0.000000 V=0.000000 W=0.000000 Steps=3\n"
       ∷ "KLT? PI_BASE" ⇒ replies "Name=PI_BASE EndCoordinateSystem=HEXAPOD X=0.000000 Y=0.000000 Z=0.000000 U=0.000000 V=0.000000 W=0.000000 Steps=0\n" ∷ [])
+  -- [02 §5] the inverse of X 1 Y 2 Z 3 U 90 W 90; and at the bench, typed as B, behind A and before it
+  pub undone : inverse (record { at = record { x = pos 1; y = pos 2; z = pos 3 }; rot = rotOf (record { u = 1; v = 0; w = 1 }) })
+      ≡ record { at = record { x = negℤ (pos 3); y = pos 1; z = pos 2 }; rot = rotOf (record { u = 0; v = 1; w = 3 }) }
+  pub undoing : Session (
+      "KSD A X 1 Y 2 Z 3 U 90 W 90" ⇒ taken ∷ "KSD B X -3 Y 1 Z 2 V 90 W 270" ⇒ taken ∷ "KLN B A" ⇒ taken
+      ∷ "KLT? B" ⇒ replies "Name=B EndCoordinateSystem=ZERO X=0.000000 Y=0.000000 Z=0.000000 U=0.000000 V=0.000000 W=0.000000 Steps=2\n"
+      ∷ "KLN B ZERO" ⇒ taken ∷ "KLN A B" ⇒ taken
+      ∷ "KLT? A" ⇒ replies "Name=A EndCoordinateSystem=ZERO X=0.000000 Y=0.000000 Z=0.000000 U=0.000000 V=0.000000 W=0.000000 Steps=2\n" ∷ [])
+  -- [02 §5] C on B on A; then the two last joined, as E on A, and the two first, as C on D: each is typed as KLT? showed the two
+  pub regrouped : Session (
+      "KSD A X 1 U 90" ⇒ taken ∷ "KSD B Y 2 W 90" ⇒ taken ∷ "KSD C Z 3 V 90" ⇒ taken ∷ "KLN C B" ⇒ taken
+      ∷ "KLT? C" ⇒ replies "Name=C EndCoordinateSystem=ZERO X=0.000000 Y=2.000000 Z=3.000000 U=90.000000 V=180.000000 W=270.000000 Steps=2\n"
+      ∷ "KLN B A" ⇒ taken
+      ∷ "KLT? B" ⇒ replies "Name=B EndCoordinateSystem=ZERO X=1.000000 Y=0.000000 Z=2.000000 U=90.000000 V=0.000000 W=90.000000 Steps=2\n"
+      ∷ "KLT? C" ⇒ replies "Name=C EndCoordinateSystem=ZERO X=1.000000 Y=-3.000000 Z=2.000000 U=0.000000 V=0.000000 W=90.000000 Steps=3\n"
+      ∷ "KSD E Y 2 Z 3 U 90 V 180 W 270" ⇒ taken ∷ "KLN E A" ⇒ taken
+      ∷ "KLT? E" ⇒ replies "Name=E EndCoordinateSystem=ZERO X=1.000000 Y=-3.000000 Z=2.000000 U=0.000000 V=0.000000 W=90.000000 Steps=2\n"
+      ∷ "KSD D X 1 Z 2 U 90 W 90" ⇒ taken ∷ "KLN C D" ⇒ taken
+      ∷ "KLT? C" ⇒ replies "Name=C EndCoordinateSystem=ZERO X=1.000000 Y=-3.000000 Z=2.000000 U=0.000000 V=0.000000 W=90.000000 Steps=2\n" ∷ [])

@@ -11,8 +11,8 @@ use Rattle.model.specs.Lists.{least}
 use Rattle.model.specs.Pose.{axisNumber, times, rotOf, sameRot, triple, shown}
 use Rattle.model.proofs.Upto.{at}
 use Rattle.pose.specs.Types.{Rot, Turns}
-use Rattle.pose.specs.Numbers.{rotNumber, rotAt, firstAxes, firstPlace, firstNamed}
-use Rattle.pose.proofs.Naming.{rotAt-number, axisNumber-below}
+use Rattle.pose.specs.Numbers.{firstAxes, firstPlace, firstNamed}
+use Rattle.pose.proofs.Naming.{rotNumber, rotAt, rotAt-number, axisNumber-below}
 use Rattle.pose.proofs.rotation.shown_of.Statement.{statement}
 use Rattle.pose.proofs.rotation.shown_of.Tie as tie
 

@@ -1,50 +1,8 @@
 -- Rotations compose as they act, and they act on sums. Each law goes by the six cases of one signed axis.
 use mathlib.Core.Path.{_≡_, refl, sym}
 use lib.IntN.{pos, negℤ, _+ℤ_, negℤ-negℤ, negℤ-+ℤ, +ℤ-assoc, +ℤ-idl, +ℤ-idr, +ℤ-invl, +ℤ-invr}
-use Rattle.model.specs.Pose.{flip, coord, row, turned, after, unturned, plus, origin}
-use Rattle.pose.specs.Types.{Dir, Px, Nx, Py, Ny, Pz, Nz, Rot, Vec3}
-use Rattle.pose.specs.Inverse.{minus}
-
--- ---- composing
-
-flip-flip : (d : Dir) → flip (flip d) ≡ d
-flip-flip Px = refl
-flip-flip Nx = refl
-flip-flip Py = refl
-flip-flip Ny = refl
-flip-flip Pz = refl
-flip-flip Nz = refl
-
-row-flip : (d : Dir) (s : Rot) → row (flip d) s ≡ flip (row d s)
-row-flip Px s = refl
-row-flip Nx s = sym (flip-flip (s .a))
-row-flip Py s = refl
-row-flip Ny s = sym (flip-flip (s .b))
-row-flip Pz s = refl
-row-flip Nz s = sym (flip-flip (s .c))
-
-row-after : (d : Dir) (s t : Rot) → row (row d s) t ≡ row d (after s t)
-row-after Px s t = refl
-row-after Nx s t = row-flip (s .a) t
-row-after Py s t = refl
-row-after Ny s t = row-flip (s .b) t
-row-after Pz s t = refl
-row-after Nz s t = row-flip (s .c) t
-
-pub after-assoc : (r s t : Rot) → after (after r s) t ≡ after r (after s t)
-after-assoc r s t = λ i. record { a = row-after (r .a) s t i; b = row-after (r .b) s t i; c = row-after (r .c) s t i }
-
-row-unturned : (d : Dir) → row d unturned ≡ d
-row-unturned Px = refl
-row-unturned Nx = refl
-row-unturned Py = refl
-row-unturned Ny = refl
-row-unturned Pz = refl
-row-unturned Nz = refl
-
--- (the other side computes)
-pub after-unturned : (r : Rot) → after r unturned ≡ r
-after-unturned r = λ i. record { a = row-unturned (r .a) i; b = row-unturned (r .b) i; c = row-unturned (r .c) i }
+use Rattle.model.specs.Types.{Dir, Px, Nx, Py, Ny, Pz, Nz, Rot, Vec3}
+use Rattle.model.specs.Pose.{flip, coord, row, turned, after, unturned, plus, minus, origin}
 
 -- ---- turning a point
 
@@ -89,6 +47,47 @@ coord-origin Nz = refl
 
 pub turned-origin : (r : Rot) → turned r origin ≡ origin
 turned-origin r = λ i. record { x = coord-origin (r .a) i; y = coord-origin (r .b) i; z = coord-origin (r .c) i }
+
+-- ---- composing
+
+flip-flip : (d : Dir) → flip (flip d) ≡ d
+flip-flip Px = refl
+flip-flip Nx = refl
+flip-flip Py = refl
+flip-flip Ny = refl
+flip-flip Pz = refl
+flip-flip Nz = refl
+
+row-flip : (d : Dir) (s : Rot) → row (flip d) s ≡ flip (row d s)
+row-flip Px s = refl
+row-flip Nx s = sym (flip-flip (s .a))
+row-flip Py s = refl
+row-flip Ny s = sym (flip-flip (s .b))
+row-flip Pz s = refl
+row-flip Nz s = sym (flip-flip (s .c))
+
+row-after : (d : Dir) (s t : Rot) → row (row d s) t ≡ row d (after s t)
+row-after Px s t = refl
+row-after Nx s t = row-flip (s .a) t
+row-after Py s t = refl
+row-after Ny s t = row-flip (s .b) t
+row-after Pz s t = refl
+row-after Nz s t = row-flip (s .c) t
+
+pub after-assoc : (r s t : Rot) → after (after r s) t ≡ after r (after s t)
+after-assoc r s t = λ i. record { a = row-after (r .a) s t i; b = row-after (r .b) s t i; c = row-after (r .c) s t i }
+
+row-unturned : (d : Dir) → row d unturned ≡ d
+row-unturned Px = refl
+row-unturned Nx = refl
+row-unturned Py = refl
+row-unturned Ny = refl
+row-unturned Pz = refl
+row-unturned Nz = refl
+
+-- (the other side computes)
+pub after-unturned : (r : Rot) → after r unturned ≡ r
+after-unturned r = λ i. record { a = row-unturned (r .a) i; b = row-unturned (r .b) i; c = row-unturned (r .c) i }
 
 -- ---- sums
 
