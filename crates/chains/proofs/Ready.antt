@@ -1,7 +1,7 @@
 -- From a well-formed memory to what the walk asks, and from what the walk gives back to the memory's own resultants.
 use Prim.Native.Nat.{ℕ, zero, suc, _*_, _≤_, _<_}
 use mathlib.Core.Path.{_≡_, refl, sym, ap, subst, _∙_}
-use mathlib.Core.Bool.{true, _&&_}
+use mathlib.Core.Bool.{true}
 use mathlib.Core.List.{List}
 use native.Mathlib.Omega.{arith}
 use native.Mathlib.Decide.{decLt}
@@ -13,8 +13,7 @@ use Rattle.model.specs.declared.Vec3.{Vec3}
 use Rattle.model.specs.Words.{offset?}
 use Rattle.model.specs.Memory.{System, Memory, systemAt, blank}
 use Rattle.model.specs.WellFormed.{memoryFine, offsetsFine}
-use Rattle.model.proofs.Basics.{and-split}
-use Rattle.model.proofs.Memories.Fine.{Systems, own-of, fine-of, preds-within, blank-beyond}
+use Rattle.model.proofs.Memories.Fine.{Systems, own-of, offsets-of, fine-of, preds-within, blank-beyond}
 use Rattle.pose.specs.Poses.{Within}
 use Rattle.pose.proofs.Bounds.{within-origin}
 use Rattle.chains.specs.Flat.{predsOf}
@@ -31,9 +30,8 @@ offset-in z e = leb-true (natAbs z) offsetLimit e
 
 offsets-in : (t : Vec3) → offsetsFine t ≡ true → Within offsetLimit t
 offsets-in t e =
-    let a = and-split (offset? (t .x) && offset? (t .y)) (offset? (t .z)) e in
-    let b = and-split (offset? (t .x)) (offset? (t .y)) (a .0) in
-    record { x-within = offset-in (t .x) (b .0); y-within = offset-in (t .y) (b .1); z-within = offset-in (t .z) (a .1) }
+    let o = offsets-of t e in
+    record { x-within = offset-in (t .x) (o .x); y-within = offset-in (t .y) (o .y); z-within = offset-in (t .z) (o .z) }
 
 -- where no system stands, the offsets are 0
 offsets-at : (l : List System) → Systems l → (q : ℕ) → Within offsetLimit (systemAt l q .offset)

@@ -45,8 +45,8 @@ pub record OneInverse (p : Pose) : Type 0 where
   pub only-before : (q : Pose) → Alike (followed q p) neutral → Alike q (inverse p)
   pub only-behind : (q : Pose) → Alike (followed p q) neutral → Alike q (inverse p)
 
--- [02 §5; Poses] the shown triple names the rotation, and is the first in dictionary order that does. Triples are shown alike exactly when no point
--- tells them apart; and poses are alike exactly when no point does, so that nothing is lost by comparing them so.
+-- [02 §5; Poses] the shown triple names the rotation, and is the first that does, by the places in dictionary order (`order`). Triples are shown alike
+-- exactly when no point tells them apart; and poses are alike exactly when no point does, so that nothing is lost by comparing them so.
 pub record Showing : Type 0 where
   pub names : (r : Rot) → Named r → rotOf (shown r) ≡ r
   pub first : (t : Turns) → place (shown (rotOf t)) ≤ place t

@@ -3,8 +3,9 @@ use Prim.Native.Nat.{ℕ, _+_, _≤_}
 use native.Mathlib.Omega.{arith}
 use lib.IntN.{natAbs}
 use Rattle.signed.proofs.Sizes.{natAbs-neg}
+use Rattle.model.proofs.Poses.Turning.{coord-keeps}
 use Rattle.model.specs.Pose.{Pose, coord, turned, plus, minus, origin, followed}
-use Rattle.pose.specs.Types.{Dir, Px, Nx, Py, Ny, Pz, Nz, Rot, Vec3}
+use Rattle.pose.specs.Types.{Dir, Nx, Ny, Nz, Rot, Vec3}
 use Rattle.pose.specs.Poses.{Within}
 use Rattle.pose.proofs.Sums.{natAbs-add}
 
@@ -15,12 +16,8 @@ pub within-more : (h k : ℕ) (v : Vec3) → h ≤ k → Within h v → Within k
 within-more h k v l w = record { x-within = omega arith; y-within = omega arith; z-within = omega arith }
 
 pub within-coord : (h : ℕ) (d : Dir) (v : Vec3) → Within h v → natAbs (coord d v) ≤ h
-within-coord h Px v w = w .x-within
-within-coord h Nx v w = rw (natAbs-neg (v .x)) (w .x-within)
-within-coord h Py v w = w .y-within
-within-coord h Ny v w = rw (natAbs-neg (v .y)) (w .y-within)
-within-coord h Pz v w = w .z-within
-within-coord h Nz v w = rw (natAbs-neg (v .z)) (w .z-within)
+within-coord h d v w =
+    coord-keeps (λ z. natAbs z ≤ h) (λ z k. rw (natAbs-neg z) k) v (w .x-within) (w .y-within) (w .z-within) d
 
 pub within-turned : (h : ℕ) (r : Rot) (v : Vec3) → Within h v → Within h (turned r v)
 within-turned h r v w =

@@ -1,6 +1,6 @@
 -- Laws of chains that end: their steps, their places, what is on them, and the resultant.
-use Prim.Native.Nat.{ℕ, zero, suc, _≤_, _<_}
-use mathlib.Core.Path.{_≡_, refl, sym, _∙_}
+use Prim.Native.Nat.{ℕ, zero, suc, _+_, _≤_, _<_}
+use mathlib.Core.Path.{_≡_, refl, sym, ap, _∙_}
 use mathlib.Core.List.{List, [], _∷_}
 use mathlib.Core.Bool.{true, false}
 use native.Mathlib.Omega.{arith}
@@ -13,7 +13,7 @@ use Rattle.model.specs.Pose.{followed, neutral}
 use Rattle.model.specs.Memory.{System}
 use Rattle.model.specs.Chain.{predOf, hop, steps, chain, onChain, ownPose, poseOver, resultant}
 use Rattle.model.proofs.Basics.{any-at, any-where, least-hit, least-miss, least-is, length-table, table-at}
-use Rattle.model.proofs.Chains.Hops.{hop-past, hop-next}
+use Rattle.model.proofs.Chains.Hops.{hop-add, hop-past, hop-next}
 
 -- the chain of q ends within as many links as there are systems; `ring-free` gives it for every place of a list without a ring
 abbrev pub Ends : List System → ℕ → Type 0
@@ -93,6 +93,12 @@ module _ (l : List System) where
     unfolding hop
     off-path a zero p n e h = n h
     off-path a (suc i) p n e h = off-chain a i p e h
+
+  -- j links down the chain there are j steps less
+  pub steps-hop : (q j n : ℕ) → Ends l q → j + n ≡ steps l q → steps l (hop l j q) ≡ n
+  steps-hop q j n e s =
+      steps-is (hop l j q) n (omega (arith, steps-within q e)) (sym (hop-add l j n q) ∙ ap (λ (k : ℕ). hop l k q) s ∙ steps-end q e)
+      (λ i h z. steps-before q (j + i) (omega arith) (hop-add l j i q ∙ z))
 
   pub steps-pred : (q : ℕ) → 0 < q → Ends l q → steps l q ≡ suc (steps l (predOf l q))
   unfolding hop

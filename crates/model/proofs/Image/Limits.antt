@@ -20,6 +20,7 @@ use Rattle.model.specs.Image.{edition, whole, signedCode, numbers, syste
 use Rattle.model.specs.ImageClaims.{Fits}
 use Rattle.model.proofs.Basics.{and-split, or-split}
 use Rattle.model.proofs.Words.{legalName-short}
+use Rattle.model.proofs.Memories.Fine.{offsets-of}
 use Rattle.model.proofs.Image.Wholes.{length-whole}
 
 -- ---- the numbers
@@ -54,15 +55,14 @@ system-within l s e =
     let t = and-split _ _ (g .0) in
     let o = and-split _ _ (t .0) in
     let n = and-split _ _ (o .0) in
-    let xyz = and-split _ _ (o .1) in
-    let xy = and-split (offset? (s .offset .x)) (offset? (s .offset .y)) (xyz .0) in
+    let xyz = offsets-of (s .offset) (o .1) in
     let uvw = and-split _ _ (t .1) in
     let uv = and-split (leb (s .turns .u) 3) (leb (s .turns .v) 3) (uvw .0) in
     record {
       name = legalName-short (s .name) (n .0);
-      x = offset-within (s .offset .x) (xy .0);
-      y = offset-within (s .offset .y) (xy .1);
-      z = offset-within (s .offset .z) (xyz .1);
+      x = offset-within (s .offset .x) (xyz .x);
+      y = offset-within (s .offset .y) (xyz .y);
+      z = offset-within (s .offset .z) (xyz .z);
       u = leb-true (s .turns .u) 3 (uv .0);
       v = leb-true (s .turns .v) 3 (uv .1);
       w = leb-true (s .turns .w) 3 (uvw .1);

@@ -9,13 +9,13 @@ use native.Mathlib.Decide.{decLt}
 use borrow.Author.Tests.{eqb-true, leb-true, ltb-true, eq-eqb, le-leb, lt-ltb, not-true}
 use lib.Dec.{eqb, leb, ltb}
 use lib.ListN.{length, getD, List·getD-eq-default}
-use Rattle.model.specs.Types.{Kind, Ksd, Kst, Ksw, Ksb, Kld, Enabled, OperatingPart, Single, Pair}
+use Rattle.model.specs.Types.{Kind, Ksd, Kst, Ksw, Ksb, Kld, Vec3, Enabled, OperatingPart, Single, Pair}
 use Rattle.model.specs.Lists.{all, any, same}
 use Rattle.model.specs.Limits.{maxSystems}
 use Rattle.model.specs.Kinds.{ofKind, sameKind}
 use Rattle.model.specs.Memory.{System, Memory, State, systemAt, blank}
 use Rattle.model.specs.Chain.{noRing}
-use Rattle.model.specs.Words.{legalName, reserved}
+use Rattle.model.specs.Words.{legalName, reserved, offset?}
 use Rattle.model.specs.WellFormed.{isKind, offsetsFine, noOffset, turnsFine, ownFine, systemFine, namesDiffer, operatingFine, enabledFine, memoryFine, wellFormed}
 use Rattle.model.specs.Refusals.{ofLine?}
 use Rattle.model.proofs.Basics.{and-split, and-join, or-split, or-left, or-right, either, true-false, all-at, all-from, any-none, any-where, same→≡, ≡→same}
@@ -90,6 +90,21 @@ own-of s f =
 
 pub own-from : (s : System) → Own s → ownFine s ≡ true
 own-from s o = and-join (and-join (and-join (and-join (o .name) (ap not (o .free))) (o .offset)) (o .turns)) (o .flat)
+
+-- offsets within the limit, axis by axis
+pub record Offsets (t : Vec3) : Type 0 where
+  pub x : offset? (t .x) ≡ true
+  pub y : offset? (t .y) ≡ true
+  pub z : offset? (t .z) ≡ true
+
+pub offsets-of : (t : Vec3) → offsetsFine t ≡ true → Offsets t
+offsets-of t f =
+    let a = and-split (offset? (t .x) && offset? (t .y)) (offset? (t .z)) f in
+    let b = and-split (offset? (t .x)) (offset? (t .y)) (a .0) in
+    record { x = b .0; y = b .1; z = a .1 }
+
+pub offsets-from : (t : Vec3) → Offsets t → offsetsFine t ≡ true
+offsets-from t o = and-join (and-join (o .x) (o .y)) (o .z)
 
 abbrev pub PartPlaced : List System → OperatingPart → Type 0
 PartPlaced l (Single p) = Placed l Ksd p

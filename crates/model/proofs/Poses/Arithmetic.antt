@@ -1,22 +1,21 @@
 -- Document 02 §5: the laws of poses by offset and shown triple. Of named rotations the shown triple tells all, so that alike poses are the same pose.
 use mathlib.Core.Path.{_≡_, refl, sym, ap, _∙_}
-use mathlib.Core.Bool.{true, _&&_}
+use mathlib.Core.Bool.{true}
 use mathlib.Core.List.{List}
-use Prim.Native.Nat.{ℕ, zero, suc, _+_, _≤_}
+use Prim.Native.Nat.{ℕ, zero, suc, _+_, _-_, _≤_}
 use native.Mathlib.Omega.{arith}
 use lib.IntN.{ℤ, pos, negsuc, negℤ}
-use Rattle.model.specs.Types.{Dir, Px, Nx, Py, Ny, Pz, Nz, Rot, Vec3}
+use Rattle.model.specs.Types.{Dir, Nx, Ny, Nz, Rot, Vec3}
 use Rattle.model.specs.Pose.{Pose, coord, turned, plus, minus, origin, placed, neutral, followed, transposed, shown}
 use Rattle.model.specs.Memory.{System, systemAt}
 use Rattle.model.specs.Chain.{predOf, hop, steps, ownPose, poseOver, resultant}
 use Rattle.model.specs.Words.{offset?}
 use Rattle.model.specs.WellFormed.{offsetsFine}
 use Rattle.model.specs.Arithmetic.{Alike, Named, FollowingOn, OneInverse, Showing, Regrouping, Arithmetic}
-use Rattle.model.proofs.Basics.{and-split, and-join}
 use Rattle.model.proofs.Chains.Hops.{ring-free}
-use Rattle.model.proofs.Chains.Steps.{Ends, ends-pred, steps-zero, steps-pred, resultant-pred}
-use Rattle.model.proofs.Memories.Fine.{fine-of}
-use Rattle.model.proofs.Poses.Turning.{plus-assoc, origin-plus, minus-plus}
+use Rattle.model.proofs.Chains.Steps.{Ends, steps-hop}
+use Rattle.model.proofs.Memories.Fine.{fine-of, offsets-of, offsets-from}
+use Rattle.model.proofs.Poses.Turning.{coord-keeps, plus-assoc, origin-plus, minus-plus}
 use Rattle.model.proofs.Poses.Showing.{named-turns, place-triple, shown-names, shown-first, shown-tells, shown-unturned, shown-alike, turned-tells}
 use Rattle.model.proofs.Poses.Laws.{placed-followed, follow-assoc, neutral-before, neutral-behind, named-after, named-unturned, transposed-undoes, inverse-before, inverse-behind, only-before, only-behind}
 
@@ -50,7 +49,7 @@ placed-tells p q h =
     let turns : (v : Vec3) → turned (p .rot) v ≡ turned (q .rot) v = λ v. sym (less-offset p v) ∙ (λ i. plus (minus (e i)) (h v i)) ∙ less-offset q v in
     λ i. record { at = e i; rot = turned-tells (p .rot) (q .rot) turns i }
 
--- ---- the limit is the same either way, so that a turn or a change of sign stays within it
+-- ---- the limit is the same either way, so that a turn stays within it
 
 offset-neg : (z : ℤ) → offset? (negℤ z) ≡ offset? z
 unfolding offset?
@@ -58,26 +57,15 @@ offset-neg (pos zero) = refl
 offset-neg (pos (suc n)) = refl
 offset-neg (negsuc n) = refl
 
-module _ (v : Vec3) (fine : offsetsFine v ≡ true) where
-  fine-z : (offset? (v .x) && offset? (v .y) ≡ true) × (offset? (v .z) ≡ true)
-  fine-z = and-split (offset? (v .x) && offset? (v .y)) (offset? (v .z)) fine
+fine-turned : (r : Rot) (v : Vec3) → offsetsFine v ≡ true → offsetsFine (turned r v) ≡ true
+fine-turned r v fine =
+    let o = offsets-of v fine in
+    let keeps : (d : Dir) → offset? (coord d v) ≡ true = coord-keeps (λ z. offset? z ≡ true) (λ z e. offset-neg z ∙ e) v (o .x) (o .y) (o .z) in
+    offsets-from (turned r v) (record { x = keeps (r .a); y = keeps (r .b); z = keeps (r .c) })
 
-  fine-xy : (offset? (v .x) ≡ true) × (offset? (v .y) ≡ true)
-  fine-xy = and-split (offset? (v .x)) (offset? (v .y)) (fine-z .0)
-
-  fine-coord : (d : Dir) → offset? (coord d v) ≡ true
-  fine-coord Px = fine-xy .0
-  fine-coord Nx = offset-neg (v .x) ∙ fine-xy .0
-  fine-coord Py = fine-xy .1
-  fine-coord Ny = offset-neg (v .y) ∙ fine-xy .1
-  fine-coord Pz = fine-z .1
-  fine-coord Nz = offset-neg (v .z) ∙ fine-z .1
-
-  fine-turned : (r : Rot) → offsetsFine (turned r v) ≡ true
-  fine-turned r = and-join (and-join (fine-coord (r .a)) (fine-coord (r .b))) (fine-coord (r .c))
-
-  fine-minus : offsetsFine (minus v) ≡ true
-  fine-minus = and-join (and-join (fine-coord Nx) (fine-coord Ny)) (fine-coord Nz)
+-- (the opposite of a point is what three mirrored axes make of it)
+fine-minus : (v : Vec3) → offsetsFine v ≡ true → offsetsFine (minus v) ≡ true
+fine-minus v = fine-turned (record { a = Nx; b = Ny; c = Nz }) v
 
 -- ---- chains
 
@@ -96,15 +84,12 @@ cut-over l i (suc j) q =
     follow-assoc (poseOver l i (hop l j p)) (poseOver l j p) (ownPose l q)
 
 cut-resultant : (l : List System) (q j : ℕ) → Ends l q → j ≤ steps l q → resultant l q ≡ followed (resultant l (hop l j q)) (poseOver l j q)
-unfolding poseOver hop
-cut-resultant l q zero e h = sym (neutral-behind (resultant l q))
-cut-resultant l zero (suc j) e h = let z = steps-zero l in absurd (omega arith)
-cut-resultant l (suc k) (suc j) e h =
-    let q = suc k in
-    let p = predOf l q in
-    let s = steps-pred l q (omega arith) e in
-    resultant-pred l q (omega arith) e ∙ ap (λ (s : Pose). followed s (ownPose l q)) (cut-resultant l p j (ends-pred l q e) (omega arith)) ∙
-    follow-assoc (resultant l (hop l j p)) (poseOver l j p) (ownPose l q)
+unfolding resultant
+cut-resultant l q j e h =
+    let n = steps l q - j in
+    let s : steps l q ≡ n + j = omega arith in
+    ap (λ (k : ℕ). poseOver l k q) s ∙ cut-over l n j q ∙
+    ap (λ (k : ℕ). followed (poseOver l k (hop l j q)) (poseOver l j q)) (sym (steps-hop l q j n e (omega arith)))
 
 -- ---- the claims
 
@@ -123,7 +108,7 @@ one-inverse : (p : Pose) → Named (p .rot) → OneInverse p
 one-inverse p n =
     record {
       named = transposed-undoes (p .rot) n .named;
-      within = λ fine. fine-turned (minus (p .at)) (fine-minus (p .at) fine) (transposed (p .rot));
+      within = λ fine. fine-turned (transposed (p .rot)) (minus (p .at)) (fine-minus (p .at) fine);
       undoes = record { before = alike _ _ (inverse-before p n); behind = alike _ _ (inverse-behind p n) };
       only-before = λ q a. alike _ _ (only-before p n q (none _ a));
       only-behind = λ q a. alike _ _ (only-behind p n q (none _ a));
@@ -140,7 +125,12 @@ showing =
     }
 
 regrouping : Regrouping
-regrouping = record { named = named-over; resultants = λ m fine q j h below. alike _ _ (cut-resultant (m .systems) q j (ring-free (m .systems) (fine-of m fine .ringless) q h) below); pieces = λ l i j q. alike _ _ (cut-over l i j q) }
+regrouping =
+    record {
+      named = named-over;
+      resultants = λ m fine q j h below. alike _ _ (cut-resultant (m .systems) q j (ring-free (m .systems) (fine-of m fine .ringless) q h) below);
+      pieces = λ l i j q. alike _ _ (cut-over l i j q);
+    }
 
 pub arithmetic-of-poses : Arithmetic
 arithmetic-of-poses = record { following = following-on; undoing = one-inverse; showing = showing; regrouping = regrouping }

@@ -1,6 +1,6 @@
 -- Rotations compose as they act, and they act on sums. Each law goes by the six cases of one signed axis.
 use mathlib.Core.Path.{_≡_, refl, sym}
-use lib.IntN.{pos, negℤ, _+ℤ_, negℤ-negℤ, negℤ-+ℤ, +ℤ-assoc, +ℤ-idl, +ℤ-idr, +ℤ-invl, +ℤ-invr}
+use lib.IntN.{ℤ, pos, negℤ, _+ℤ_, negℤ-negℤ, negℤ-+ℤ, +ℤ-assoc, +ℤ-idl, +ℤ-idr, +ℤ-invl, +ℤ-invr}
 use Rattle.model.specs.Types.{Dir, Px, Nx, Py, Ny, Pz, Nz, Rot, Vec3}
 use Rattle.model.specs.Pose.{flip, coord, row, turned, after, unturned, plus, minus, origin}
 
@@ -47,6 +47,16 @@ coord-origin Nz = refl
 
 pub turned-origin : (r : Rot) → turned r origin ≡ origin
 turned-origin r = λ i. record { x = coord-origin (r .a) i; y = coord-origin (r .b) i; z = coord-origin (r .c) i }
+
+-- what is so of each coordinate, and stays so when the sign changes, is so of whatever a signed axis reads
+module _ (P : ℤ → Type 0) (negated : (z : ℤ) → P z → P (negℤ z)) (v : Vec3) (x : P (v .x)) (y : P (v .y)) (z : P (v .z)) where
+  pub coord-keeps : (d : Dir) → P (coord d v)
+  coord-keeps Px = x
+  coord-keeps Nx = negated (v .x) x
+  coord-keeps Py = y
+  coord-keeps Ny = negated (v .y) y
+  coord-keeps Pz = z
+  coord-keeps Nz = negated (v .z) z
 
 -- ---- composing
 
