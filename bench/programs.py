@@ -1,4 +1,4 @@
-"""The programs that are compared: ksrun, ksscript and ksbench of this repository, and the Rust twin of the first two."""
+"""The programs that are compared: ksrun, ksscript, ksbench and kssheet of this repository, and the Rust twin of all but ksbench."""
 import os
 import pathlib
 import subprocess
@@ -27,8 +27,12 @@ def ksbench():
     return built("ksbench")
 
 
+def kssheet():
+    return built("kssheet")
+
+
 def twin(mode="run"):
-    """The twin's command: as ksrun (run) or as ksscript (script)."""
+    """The twin's command: as ksrun (run), as ksscript (script) or as kssheet (sheet)."""
     target = pathlib.Path(tempfile.gettempdir()) / "julomavien-twin"
     env = dict(os.environ, CARGO_TARGET_DIR=str(target))
     subprocess.run(["cargo", "build", "--release", "--quiet", "--offline", "--manifest-path", str(here / "twin/Cargo.toml")], check=True, env=env)

@@ -6,6 +6,6 @@ pub mod SystemSteps  -- a system, part by part
 pub mod EnabledSteps  -- what is enabled, part by part
 pub mod MemorySteps  -- a memory, part by part
 pub mod Answering  -- what is answered to the bytes of an image
-pub mod Left  -- what is left to write
+pub mod NumbersLeft  -- what is left to write of numbers
 pub mod SystemLeft  -- of a system
 pub mod MemoryLeft  -- of a memory

@@ -1,6 +1,7 @@
--- Poses/: rotations, shown triples, and the arithmetic of poses.
+-- Poses/: rotations, shown triples, the arithmetic of poses, and the sheet.
 pub mod Turning  -- rotations compose as they act
 pub mod Naming  -- rotations by the triples that name them
 pub mod Showing  -- the shown triple
 pub mod Laws  -- following on, and the inverse
 pub mod Arithmetic  -- the same by offset and shown triple, as document 02 §5 says it
+pub mod Sheet  -- all 64 triples on a sheet, as document 02 §14 says it

@@ -1,6 +1,6 @@
--- A test at each number below n, computed once, and what it says at one of them.
-use mathlib.Core.Path.{_≡_, subst, sym}
-use mathlib.Core.Bool.{Bool, true, _&&_}
+-- A test at each number below n, computed once, and what it says at one of them; and what a test says that is passed.
+use mathlib.Core.Path.{_≡_, refl, subst, sym}
+use mathlib.Core.Bool.{Bool, true, false, Bool·beq, _&&_}
 use Prim.Native.Nat.{ℕ, zero, suc, _<_}
 use native.Mathlib.Nat.{not-suc-le-zero}
 use native.Mathlib.Decide.{ℕ-discrete}
@@ -19,3 +19,13 @@ at (suc n) f t k h = go (ℕ-discrete k n) (λ l. at n f (and-yes (f n) (upto n 
     go : Dec (k ≡ n) → (k < n → T (f k)) → T (f k)
     go (yes e) rest = subst (λ (j : ℕ). T (f j)) (sym e) (and-yes (f n) (upto n f) t .0)
     go (no d) rest = rest (omega arith)
+
+pub alike : (a b : Bool) → T (Bool·beq a b) → a ≡ b
+alike true true t = refl
+alike true false t = absurd t
+alike false true t = absurd t
+alike false false t = refl
+
+pub passed : (b : Bool) → T b → b ≡ true
+passed true t = refl
+passed false t = absurd t

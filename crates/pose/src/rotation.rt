@@ -1,7 +1,7 @@
 // Rotations of the cube by rows, and the triples of quarter turns that name them.
 ghost use mathlib.Core.Path.{_≡_};
 ghost use Prim.Native.Nat.{_<_};
-ghost use Rattle.model.specs.Pose.{flip, row, coord, after, turned, withRow, transposed, times, quarterX, quarterY, quarterZ, axisNumber, rotOf, shown};
+ghost use Rattle.model.specs.Pose.{flip, row, coord, after, turned, withRow, transposed, times, quarterX, quarterY, quarterZ, axisNumber, rotOf, triple, shown};
 ghost use Rattle.pose.specs.Poses.{Within, widest};
 ghost use Rattle.pose.specs.Numbers.{firstNamed};
 use model::Dir;
@@ -271,6 +271,17 @@ fn first_named(axes: u8) -> u16
     }
 }
 
+// The triple at a place in dictionary order.
+pub fn triple_at(place: u8) -> Turns
+    ensures { λ t. ⌜ t ≡ triple place ⌝ }
+{
+    Turns {
+        u: place / 16,
+        v: place / 4 % 4,
+        w: place % 4,
+    }
+}
+
 // The triple that a rotation is shown as. Axes that are no rotation have the last triple.
 pub fn shown_of(r: Rot) -> Turns
     ensures { λ t. ⌜ t ≡ shown r ⌝ }
@@ -282,13 +293,8 @@ pub fn shown_of(r: Rot) -> Turns
     let j = number(b);
     let k = number(c);
     let first = first_named(i * 6 + j);
-    let place = (first % 64) as u8;
     if first / 64 != k as u16 {
-        return Turns { u: 3, v: 3, w: 3 };
+        return triple_at(63);
     }
-    Turns {
-        u: place / 16,
-        v: place / 4 % 4,
-        w: place % 4,
-    }
+    triple_at((first % 64) as u8)
 }

@@ -9,7 +9,7 @@ use native.Mathlib.Omega.{arith}
 use lib.IntN.{ℤ, pos, negsuc, natAbs}
 use lib.Signed.{ltZ}
 use lib.ListN.{length, take, drop, getD, set, length-set, length-append, length-take, length-drop, drop-of-length-le}
-use lib.Seq.{sets, sets-eq, take-all, drop-cons, drop-drop}
+use lib.Seq.{sets, sets-eq, take-all, take-append-seam, drop-cons, drop-drop}
 use borrow.Author.Tests.{ltb-true, le-ltb}
 use borrow.Rule.Slice.PartMut.{putMid}
 use Rattle.model.specs.Lists.{joined}
@@ -88,6 +88,16 @@ wrote-part {t} {y} b at h w =
 -- there is as much room in the rest of a part as the part has left
 pub rest-room : (b : List ℕ) (at n : ℕ) → at + n ≤ length b → n ≤ length (take (length b - at) (drop at b))
 rest-room b at n h = rw (length-take, length-drop) (omega arith)
+
+-- written from the start, a text is the definitions' `written`
+pub wrote-front : {t b a : List ℕ} {next : ℕ} → length t ≤ length b → Wrote t b 0 a next → (a ≡ written t b) × (next ≡ length t)
+wrote-front {t} {b} h p = (p .bytes ∙ over-front t b h, omega (arith, p .place))
+
+-- and it is what the first bytes are
+pub wrote-first : {t b a : List ℕ} {next : ℕ} → length t ≤ length b → Wrote t b 0 a next → (next ≤ length a) × (take next a ≡ t)
+wrote-first {t} {b} h p =
+    let f = wrote-front h p in
+    (rw (p .bytes, length-over) (omega (arith, f .1)), rw (f .1, f .0) (take-append-seam t (drop (length t) b)))
 
 -- ---- digits: the leading ones, then the last k
 

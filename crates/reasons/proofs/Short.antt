@@ -1,12 +1,11 @@
 -- No reason of a number that fits in a byte is longer than 100 bytes: computed, number by number. So its line fits in a buffer, and stands first there.
 use Prim.Native.Nat.{ℕ, _≤_, _<_}
-use mathlib.Core.Path.{_≡_, _∙_}
+use mathlib.Core.Path.{_≡_}
 use mathlib.Core.List.{List, _++_}
 use mathlib.Core.Bool.{Bool}
 use native.Mathlib.Omega.{arith}
 use lib.Dec.{leb, leb→le}
-use lib.ListN.{length, take, drop, length-append}
-use lib.Seq.{take-append-seam}
+use lib.ListN.{length, take, length-append}
 use Rattle.model.specs.Ascii.{ascii}
 use Rattle.model.specs.Limits.{bufferLimit}
 use Rattle.model.specs.Reply.{decimal}
@@ -14,7 +13,7 @@ use Rattle.model.specs.Reasons.{reason, reasonLine}
 use Rattle.model.proofs.Digits.{decimal-short}
 use Rattle.model.proofs.Upto.{at}
 use Rattle.print.specs.Over.{Wrote}
-use Rattle.print.proofs.Laws.{length-over, over-front}
+use Rattle.print.proofs.Laws.{wrote-first}
 
 abbrev short : ℕ → Bool
 short n = leb (length (reason n)) 100
@@ -37,10 +36,4 @@ line-short n h =
 -- a line that was written from place 0 on
 pub line-first : (n : ℕ) → n < 256 → (b after : List ℕ) (r : ℕ) → bufferLimit ≤ length b → Wrote (reasonLine n) b 0 after r →
     (r ≤ length after) × (take r after ≡ reasonLine n)
-line-first n h b after r room w =
-    let few = line-short n h in
-    let count : r ≡ length (reasonLine n) = omega (arith, w .place) in
-    let bytes = w .bytes ∙ over-front (reasonLine n) b (omega arith) in (
-      rw (w .bytes, length-over) (omega (arith, count)),
-      rw (bytes, count) (take-append-seam (reasonLine n) (drop (length (reasonLine n)) b)),
-    )
+line-first n h b after r room w = wrote-first (omega (arith, line-short n h)) w

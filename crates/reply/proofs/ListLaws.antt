@@ -1,6 +1,6 @@
 -- A list by what follows its first lines, and what its loop keeps.
 use Prim.Native.Nat.{ℕ, zero, suc, _+_, _-_, _≤_, _<_}
-use mathlib.Core.Path.{_≡_, refl, sym, ap, _∙_}
+use mathlib.Core.Path.{_≡_, refl, ap, _∙_}
 use mathlib.Core.List.{List, [], _∷_, _++_, map, append-assoc, append-nil}
 use native.Mathlib.Nat.{add-zero}
 use native.Mathlib.Numerals.{one-add}
@@ -11,8 +11,9 @@ use Rattle.model.specs.Lists.{joined, table}
 use Rattle.model.specs.Memory.{System, Ref, fixedRef, userRef}
 use Rattle.model.specs.Reply.{listing, everySystem}
 use Rattle.model.proofs.Basics.{map-table}
-use Rattle.print.specs.Over.{over, Wrote}
-use Rattle.print.proofs.Laws.{length-over, over-append, over-front, wrote-then, wrote-part, rest-room}
+use Rattle.print.specs.Over.{Wrote}
+use Rattle.print.proofs.Laws.{length-over, wrote-then, wrote-part, wrote-front, rest-room}
+use Rattle.print.proofs.Left.{Left, left-all, left-wrote, left-fits, left-done}
 use Rattle.reply.specs.Types.{Operating, Orientational, Levelling}
 use Rattle.reply.specs.Lines.{further, furtherLines, fixedLines, Replied}
 
@@ -46,18 +47,15 @@ list-of line l n e h = every-list (line l) l ∙ rw (e, h)
 
 -- ---- the loop over the user systems
 
--- i of count further lines are written: b, with the rest of them written over it from place at, is what all of them make of the buffer b₀
+-- i of count further lines are written, and the others are left
 pub record Going (f : ℕ → List ℕ) (count : ℕ) (b₀ : List ℕ) (at₀ : ℕ) (b : List ℕ) (at i : ℕ) : Type 0 where
   pub turns : i ≤ count
-  pub long : length b ≡ length b₀
-  pub room : at₀ + length (furtherLines f count 1) ≤ length b₀
-  pub left : at + length (furtherLines f (count - i) (suc i)) ≡ at₀ + length (furtherLines f count 1)
-  pub bytes : over b₀ at₀ (furtherLines f count 1) ≡ over b at (furtherLines f (count - i) (suc i))
+  pub left : Left (furtherLines f count 1) at₀ b₀ (furtherLines f (count - i) (suc i)) at b
 
 pub going-start : (f : ℕ → List ℕ) (count : ℕ) (b : List ℕ) (at : ℕ) → at + length (furtherLines f count 1) ≤ length b → Going f count b at b at 0
 going-start f count b at h =
-    let e : count - 0 ≡ count = omega arith in
-    record { turns = omega arith; long = refl; room = h; left = rw e; bytes = rw e }
+    let e : count ≡ count - 0 = omega arith in
+    record { turns = omega arith; left = left-all (ap (λ (n : ℕ). furtherLines f n 1) e) h }
 
 some-left : (f : ℕ → List ℕ) (n k : ℕ) → 0 < length (furtherLines f n k)
 unfolding furtherLines
@@ -77,9 +75,12 @@ module _ (f : ℕ → List ℕ) (count i : ℕ) where
   no-turn h = let e : count - i ≡ 0 = omega arith in ap (λ (n : ℕ). furtherLines f n (suc i)) e
 
 module _ {f : ℕ → List ℕ} {count : ℕ} {b₀ : List ℕ} {at₀ : ℕ} {b : List ℕ} {at i : ℕ} (g : Going f count b₀ at₀ b at i) where
+  -- the next line, before those that are left after it
+  next-left : i < count → Left (furtherLines f count 1) at₀ b₀ (further (f (suc i)) ++ furtherLines f (count - (i + 1)) (suc (i + 1))) at b
+  next-left h = rw (one-turn f count i h) at (g .left)
+
   going-fits : i < count → at + length (further (f (suc i))) ≤ length b
-  going-fits h =
-      omega (arith, g .room, g .left, g .long, ap length (one-turn f count i h), length-append (further (f (suc i))) (furtherLines f (count - (i + 1)) (suc (i + 1))))
+  going-fits h = left-fits (further (f (suc i))) (furtherLines f (count - (i + 1)) (suc (i + 1))) (next-left h)
 
   -- there is room for another line in the rest of the buffer
   pub going-room : i < count → length (further (f (suc i))) ≤ length (take (length b - at) (drop at b))
@@ -89,34 +90,19 @@ module _ {f : ℕ → List ℕ} {count : ℕ} {b₀ : List ℕ} {at₀ : ℕ} {b
   going-on h e = omega (arith, going-fits h)
 
   pub going-within : at < length b
-  going-within = omega (arith, g .room, g .left, g .long, some-left f (count - i) (suc i))
+  going-within = omega (arith, g .left .room, some-left f (count - i) (suc i))
 
   pub going-turn : {y : List ℕ} {n : ℕ} → i < count → Wrote (further (f (suc i))) (take (length b - at) (drop at b)) 0 y n → Going f count b₀ at₀ (putMid at (length b - at) b y) (at + n) (i + 1)
-  going-turn h w =
-      let p = wrote-part b at (going-fits h) w in
-      let e = one-turn f count i h in
-      let rest = furtherLines f (count - (i + 1)) (suc (i + 1)) in
-      record {
-        turns = omega arith;
-        long = ap length (p .bytes) ∙ length-over _ b at ∙ g .long;
-        room = g .room;
-        left = omega (arith, p .place, g .left, ap length e, length-append (further (f (suc i))) rest);
-        bytes = g .bytes ∙ ap (over b at) e ∙ over-append (further (f (suc i))) rest b at ∙ rw (← p .bytes, ← p .place);
-      }
+  going-turn h w = record { turns = omega arith; left = left-wrote (next-left h) (wrote-part b at (going-fits h) w) }
 
   -- after the last line, its end
   pub going-end : {a : List ℕ} {r : ℕ} → count ≤ i → Wrote (10 ∷ []) b at a r → Wrote (furtherLines f count 1) b₀ at₀ a r
-  going-end h w =
-      let e = no-turn f count i h in
-      record {
-        place = omega (arith, w .place, g .left, ap length e);
-        bytes = w .bytes ∙ ap (over b at) (sym e) ∙ sym (g .bytes);
-      }
+  going-end h w = left-done (left-wrote (rw (no-turn f count i h) at (g .left)) w)
 
 -- ---- a whole reply
 
 pub replied : {t before after : List ℕ} {r : ℕ} → length t ≤ length before → Wrote t before 0 after r → Replied t before after r
-replied {t} {before} h w = record { count-is = omega (arith, w .place); bytes = w .bytes ∙ over-front t before h }
+replied h w = let f = wrote-front h w in record { count-is = f .1; bytes = f .0 }
 
 -- a list that begins with these fixed lines, goes on with count further ones, and fits the buffer b
 pub record Plan (all fixed : List ℕ) (f : ℕ → List ℕ) (count : ℕ) (b : List ℕ) : Type 0 where

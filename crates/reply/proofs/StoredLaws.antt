@@ -1,39 +1,28 @@
 -- What a well-formed stored memory gives the writers.
 use Prim.Native.Nat.{ℕ, zero, suc, _≤_, _<_}
 use mathlib.Core.Path.{_≡_, ap}
-use mathlib.Core.Bool.{true, _&&_}
+use mathlib.Core.Bool.{true}
 use mathlib.Core.List.{List}
 use native.Mathlib.Omega.{arith}
 use native.Mathlib.Decide.{decLt}
 use borrow.Author.Tests.{leb-true}
-use lib.Dec.{leb}
 use lib.ListN.{length, getD}
 use Rattle.model.specs.Limits.{nameLimit, offsetLimit}
 use Rattle.model.specs.Memory.{System, systemAt, noTurn}
 use Rattle.model.specs.Stored.{systemOf, systemsOf, memoryOf, memoryShaped}
-use Rattle.model.specs.WellFormed.{turnsFine, memoryFine}
-use Rattle.model.proofs.Basics.{and-split}
+use Rattle.model.specs.WellFormed.{memoryFine}
 use Rattle.model.proofs.Memories.Fine.{Systems, own-of, fine-of, preds-within, blank-beyond}
 use Rattle.pose.specs.Poses.{Quarters, reach}
 use Rattle.pose.proofs.Bounds.{within-more}
+use Rattle.pose.proofs.Naming.{quarters-of}
 use Rattle.chains.proofs.Copies.{unset}
 use Rattle.chains.proofs.Laid.{stored-at}
 use Rattle.chains.proofs.Ready.{walkable}
 use Rattle.model.proofs.Shape.{shaped-count, shaped-at, systemsOf-count}
-use Rattle.reply.specs.Types.{Turns, StoredMemory}
+use Rattle.reply.specs.Types.{StoredMemory}
 use Rattle.reply.specs.Lines.{Writable}
 
 -- ---- the turns of a system
-
-turns-in : (t : Turns) → turnsFine t ≡ true → Quarters t
-turns-in t e =
-    let a = and-split (leb (t .u) 3 && leb (t .v) 3) (leb (t .w) 3) e in
-    let b = and-split (leb (t .u) 3) (leb (t .v) 3) (a .0) in
-    record {
-      u-below = omega (arith, leb-true (t .u) 3 (b .0));
-      v-below = omega (arith, leb-true (t .v) 3 (b .1));
-      w-below = omega (arith, leb-true (t .w) 3 (a .1));
-    }
 
 no-quarters : Quarters noTurn
 no-quarters = record { u-below = omega arith; v-below = omega arith; w-below = omega arith }
@@ -46,7 +35,7 @@ turns-at l f (suc i) = go (decLt (length l) (suc i))
   where
     go : Dec (length l < suc i) → Quarters (systemAt l (suc i) .turns)
     go (yes h) = rw (blank-beyond l (suc i) h) no-quarters
-    go (no h) = turns-in (systemAt l (suc i) .turns) (own-of (systemAt l (suc i)) (f .own (suc i) (omega arith, omega arith)) .turns)
+    go (no h) = quarters-of (systemAt l (suc i) .turns) (own-of (systemAt l (suc i)) (f .own (suc i) (omega arith, omega arith)) .turns)
 
 -- ---- a memory with shape that is well formed; long is what owning it tells
 

@@ -1,6 +1,6 @@
 -- From what the engine gives for a line to what is said.
 use Prim.Native.Nat.{ℕ, _≤_, _<_}
-use mathlib.Core.Path.{_≡_, refl, sym, ap, _∙_}
+use mathlib.Core.Path.{_≡_, sym, ap, _∙_}
 use mathlib.Core.List.{List}
 use mathlib.Core.Bool.{Bool, true, cond, _&&_}
 use mathlib.Core.Logic.{⊎-elim}
@@ -12,7 +12,7 @@ use Rattle.model.specs.Ascii.{ascii}
 use Rattle.model.specs.Reply.{decimal}
 use Rattle.print.specs.Over.{Wrote}
 use Rattle.model.proofs.Digits.{decimal-short}
-use Rattle.print.proofs.Laws.{over-front}
+use Rattle.reply.proofs.ListLaws.{replied}
 use Rattle.model.specs.declared.State.{State as StoredState}
 use Rattle.model.specs.Limits.{bufferLimit}
 use Rattle.model.specs.Request.{reading}
@@ -47,8 +47,7 @@ refusal-short n h = omega (arith, length-append (decimal n) (ascii "\n"), decima
 
 -- E and the number, written from place 0 on
 pub refusal-written : (k : ℕ) → k < 256 → (b d : List ℕ) (n : ℕ) → bufferLimit ≤ length b → Wrote (refusalText k) b 0 d n → Replied (refusalText k) b d n
-refusal-written k small b d n h w =
-    record { count-is = omega (arith, w .place); bytes = w .bytes ∙ over-front (refusalText k) b (omega (arith, refusal-short k small)) }
+refusal-written k small b d n h w = replied (omega (arith, refusal-short k small)) w
 
 -- ---- one line
 

@@ -11,9 +11,8 @@ use lib.Seq.{length-take-le, take-take, drop-append-seam}
 use Rattle.io.specs.Counts.{Counts}
 use Rattle.io.proofs.Counting.{counts}
 use Rattle.model.specs.ImageClaims.{longestImage}
-use Rattle.model.specs.Machine.{written}
-use Rattle.print.specs.Over.{over, Wrote}
-use Rattle.print.proofs.Laws.{length-over, over-front, over-split}
+use Rattle.print.specs.Over.{Wrote}
+use Rattle.print.proofs.Laws.{length-over, over-split, wrote-front}
 use Rattle.store.specs.Place.{Placed, slash, slashAt, slashEnd, folderAt, isRooted}
 use Rattle.store.specs.Load.{Image}
 
@@ -22,7 +21,8 @@ use Rattle.store.specs.Load.{Image}
 pub placed : {t before after : List ℕ} {r : ℕ} → length t ≤ length before → Wrote t before 0 after r → Placed t before after r
 placed {t} {before} h w =
     let e = le-leb (length t) (length before) h in
-    record { count-is = rw e (omega (arith, w .place)); bytes = rw e (w .bytes ∙ over-front t before h) }
+    let f = wrote-front h w in
+    record { count-is = rw e (f .1); bytes = rw e (f .0) }
 
 pub unplaced : (t before : List ℕ) → length before < length t → Placed t before before 0
 unplaced t before h = let e = lt-leb (length t) (length before) h in record { count-is = rw e; bytes = rw e }
@@ -123,12 +123,11 @@ rooted-first (b ∷ bs) = refl
 -- it was written from byte 0 on
 pub kept : {t before after : List ℕ} {n : ℕ} → length t ≤ longestImage → length t ≤ length before → Wrote t before 0 after n → Image before after n
 kept {t} {before} {after} {n} few h w =
-    let e : n ≡ length t = omega (arith, w .place) in
-    let bytes : after ≡ written t before = w .bytes ∙ over-front t before h in
+    let f = wrote-front h w in
     let long : length after ≡ length before = ap length (w .bytes) ∙ length-over t before 0 in
     record {
-      few = omega arith;
-      within = omega arith;
+      few = omega (arith, f .1);
+      within = omega (arith, f .1);
       long = long;
-      later = rw (bytes, e) (drop-append-seam t (drop (length t) before));
+      later = rw (f .0, f .1) (drop-append-seam t (drop (length t) before));
     }

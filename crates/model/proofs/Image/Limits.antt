@@ -5,13 +5,13 @@ use mathlib.Core.List.{List, [], _∷_, _++_, map}
 use mathlib.Core.Bool.{true, _&&_}
 use mathlib.Core.Logic.{⊎-elim}
 use native.Mathlib.Omega.{arith}
-use lib.Dec.{eqb, leb}
+use lib.Dec.{eqb}
 use lib.IntN.{ℤ, pos, negsuc}
 use lib.ListN.{length, length-append}
 use borrow.Author.Tests.{leb-true, eqb-true}
 use Rattle.model.specs.Types.{Kind, Ksd, Kst, Ksw, Ksb, Kld, Enabled, OperatingPart, Single, Pair}
 use Rattle.model.specs.Lists.{all, joined}
-use Rattle.model.specs.Limits.{maxSystems, nameLimit, offsetLimit}
+use Rattle.model.specs.Limits.{maxSystems, nameLimit, offsetLimit, mostTurns}
 use Rattle.model.specs.Kinds.{ofKind}
 use Rattle.model.specs.Memory.{System, Memory}
 use Rattle.model.specs.Words.{offset?}
@@ -20,7 +20,7 @@ use Rattle.model.specs.Image.{edition, whole, signedCode, numbers, syste
 use Rattle.model.specs.ImageClaims.{Fits}
 use Rattle.model.proofs.Basics.{and-split, or-split}
 use Rattle.model.proofs.Words.{legalName-short}
-use Rattle.model.proofs.Memories.Fine.{offsets-of}
+use Rattle.model.proofs.Memories.Fine.{own-of, offsets-of, turns-of}
 use Rattle.model.proofs.Image.Wholes.{length-whole}
 
 -- ---- the numbers
@@ -30,9 +30,9 @@ pub record SystemWithin (l : List System) (s : System) : Type 0 where
   pub x : signedCode (s .offset .x) ≤ 2 * offsetLimit
   pub y : signedCode (s .offset .y) ≤ 2 * offsetLimit
   pub z : signedCode (s .offset .z) ≤ 2 * offsetLimit
-  pub u : s .turns .u ≤ 3
-  pub v : s .turns .v ≤ 3
-  pub w : s .turns .w ≤ 3
+  pub u : s .turns .u ≤ mostTurns
+  pub v : s .turns .v ≤ mostTurns
+  pub w : s .turns .w ≤ mostTurns
   pub pred : s .pred ≤ length l
 
 offset-within : (z : ℤ) → offset? z ≡ true → signedCode z ≤ 2 * offsetLimit
@@ -51,21 +51,17 @@ pub system-within : (l : List System) (s : System) → systemFine l s ≡ true �
 unfolding systemFine
 system-within l s e =
     let f = and-split _ _ e in
-    let g = and-split _ _ (f .0) in
-    let t = and-split _ _ (g .0) in
-    let o = and-split _ _ (t .0) in
-    let n = and-split _ _ (o .0) in
-    let xyz = offsets-of (s .offset) (o .1) in
-    let uvw = and-split _ _ (t .1) in
-    let uv = and-split (leb (s .turns .u) 3) (leb (s .turns .v) 3) (uvw .0) in
+    let o = own-of s (f .0) in
+    let xyz = offsets-of (s .offset) (o .offset) in
+    let uvw = turns-of (s .turns) (o .turns) in
     record {
-      name = legalName-short (s .name) (n .0);
+      name = legalName-short (s .name) (o .name);
       x = offset-within (s .offset .x) (xyz .x);
       y = offset-within (s .offset .y) (xyz .y);
       z = offset-within (s .offset .z) (xyz .z);
-      u = leb-true (s .turns .u) 3 (uv .0);
-      v = leb-true (s .turns .v) 3 (uv .1);
-      w = leb-true (s .turns .w) 3 (uvw .1);
+      u = uvw .u;
+      v = uvw .v;
+      w = uvw .w;
       pred = place-within l (s .kind) (s .pred) (f .1);
     }
 

@@ -9,9 +9,9 @@ use native.Mathlib.Decide.{decLt}
 use borrow.Author.Tests.{eqb-true, leb-true, ltb-true, eq-eqb, le-leb, lt-ltb, not-true}
 use lib.Dec.{eqb, leb, ltb}
 use lib.ListN.{length, getD, List·getD-eq-default}
-use Rattle.model.specs.Types.{Kind, Ksd, Kst, Ksw, Ksb, Kld, Vec3, Enabled, OperatingPart, Single, Pair}
+use Rattle.model.specs.Types.{Kind, Ksd, Kst, Ksw, Ksb, Kld, Vec3, Turns, Enabled, OperatingPart, Single, Pair}
 use Rattle.model.specs.Lists.{all, any, same}
-use Rattle.model.specs.Limits.{maxSystems}
+use Rattle.model.specs.Limits.{maxSystems, mostTurns}
 use Rattle.model.specs.Kinds.{ofKind, sameKind}
 use Rattle.model.specs.Memory.{System, Memory, State, systemAt, blank}
 use Rattle.model.specs.Chain.{noRing}
@@ -105,6 +105,21 @@ offsets-of t f =
 
 pub offsets-from : (t : Vec3) → Offsets t → offsetsFine t ≡ true
 offsets-from t o = and-join (and-join (o .x) (o .y)) (o .z)
+
+-- 0 to 3 quarter turns, axis by axis
+pub record Quartered (t : Turns) : Type 0 where
+  pub u : t .u ≤ mostTurns
+  pub v : t .v ≤ mostTurns
+  pub w : t .w ≤ mostTurns
+
+pub turns-of : (t : Turns) → turnsFine t ≡ true → Quartered t
+turns-of t f =
+    let a = and-split (leb (t .u) mostTurns && leb (t .v) mostTurns) (leb (t .w) mostTurns) f in
+    let b = and-split (leb (t .u) mostTurns) (leb (t .v) mostTurns) (a .0) in
+    record { u = leb-true (t .u) mostTurns (b .0); v = leb-true (t .v) mostTurns (b .1); w = leb-true (t .w) mostTurns (a .1) }
+
+pub turns-from : (t : Turns) → Quartered t → turnsFine t ≡ true
+turns-from t q = and-join (and-join (le-leb (t .u) mostTurns (q .u)) (le-leb (t .v) mostTurns (q .v))) (le-leb (t .w) mostTurns (q .w))
 
 abbrev pub PartPlaced : List System → OperatingPart → Type 0
 PartPlaced l (Single p) = Placed l Ksd p

@@ -62,22 +62,31 @@ module _ (q : Rot) (four : after q (after q (after q q)) ≡ unturned) where
   pub times-quarters : (n : ℕ) → times n q ≡ times (n % 4) q
   times-quarters n = let e : n ≡ n / 4 * 4 + n % 4 = omega arith in ap (λ (j : ℕ). times j q) e ∙ rounds (n / 4) (n % 4)
 
+-- ---- triples by their places
+
+pub triple-place : (t : Turns) → t .v < 4 → t .w < 4 → triple (place t) ≡ t
+triple-place t below-v below-w =
+    let u : place t / 16 ≡ t .u = omega arith in
+    let v : place t / 4 % 4 ≡ t .v = omega arith in
+    let w : place t % 4 ≡ t .w = omega arith in
+    λ i. record { u = u i; v = v i; w = w i }
+
+-- a triple without whole turns
+abbrev lessWhole : Turns → Turns
+lessWhole t = record { u = t .u % 4; v = t .v % 4; w = t .w % 4 }
+
 -- a triple's place among the 64, four quarter turns counting as none
 abbrev pub tripleNumber : Turns → ℕ
-tripleNumber t = place (record { u = t .u % 4; v = t .v % 4; w = t .w % 4 })
+tripleNumber t = place (lessWhole t)
 
 -- whole turns do not count: any triple names what the one of the 64 at its number does
 pub rotOf-number : (t : Turns) → rotOf (triple (tripleNumber t)) ≡ rotOf t
 unfolding rotOf
 rotOf-number t =
-    let k = tripleNumber t in
-    let u : k / 16 ≡ t .u % 4 = omega arith in
-    let v : k / 4 % 4 ≡ t .v % 4 = omega arith in
-    let w : k % 4 ≡ t .w % 4 = omega arith in
-    let x : times (k / 16) quarterX ≡ times (t .u) quarterX = ap (λ (n : ℕ). times n quarterX) u ∙ sym (times-quarters quarterX refl (t .u)) in
-    let y : times (k / 4 % 4) quarterY ≡ times (t .v) quarterY = ap (λ (n : ℕ). times n quarterY) v ∙ sym (times-quarters quarterY refl (t .v)) in
-    let z : times (k % 4) quarterZ ≡ times (t .w) quarterZ = ap (λ (n : ℕ). times n quarterZ) w ∙ sym (times-quarters quarterZ refl (t .w)) in
-    λ i. after (x i) (after (y i) (z i))
+    let x = times-quarters quarterX refl (t .u) in
+    let y = times-quarters quarterY refl (t .v) in
+    let z = times-quarters quarterZ refl (t .w) in
+    ap rotOf (triple-place (lessWhole t) (omega arith) (omega arith)) ∙ sym (λ i. after (x i) (after (y i) (z i)))
 
 tripleNumber-below : (t : Turns) → tripleNumber t < 64
 tripleNumber-below t = omega arith

@@ -11,8 +11,10 @@ use borrow.Author.Tests.{eq-eqb}
 use Rattle.model.specs.Types.{Dir, Px, Nx, Py, Ny, Pz, Nz, Rot, Turns, Vec3}
 use Rattle.model.specs.Lists.{least}
 use Rattle.model.specs.Pose.{coord, turned, unturned, times, rotOf, axisNumber, sameRot, triple, place, shown}
+use Rattle.model.specs.WellFormed.{turnsFine}
 use Rattle.model.specs.Arithmetic.{Named}
-use Rattle.model.proofs.Basics.{least-hit, least-miss, true-false}
+use Rattle.model.proofs.Basics.{least-le, least-hit, least-miss, true-false}
+use Rattle.model.proofs.Memories.Fine.{turns-from}
 use Rattle.model.proofs.Poses.Naming.{same-is, tripleNumber, rotOf-number, at-turns}
 
 pub named-turns : (t : Turns) → Named (rotOf t)
@@ -65,6 +67,13 @@ unfolding shown
 shown-first t =
     let r = rotOf t in
     rw (place-triple (firstOf r)) (omega (arith, not-before r (tripleNumber t) (rotOf-number t)))
+
+-- it has 0 to 3 quarter turns
+pub shown-fine : (r : Rot) → turnsFine (shown r) ≡ true
+unfolding shown
+shown-fine r =
+    let h = least-le 63 (λ k. sameRot (rotOf (triple k)) r) in
+    turns-from (triple (firstOf r)) (record { u = omega (arith, h); v = omega arith; w = omega arith })
 
 -- no turn is the only rotation that is shown as none
 pub shown-unturned : (r : Rot) → shown r ≡ shown unturned → r ≡ unturned

@@ -29,7 +29,7 @@ of-memories = record { systems = refl; predecessors = refl; offsets = refl; enab
 
 of-poses : OfPoses
 unfolding sessions-open
-of-poses = record { turns = refl; product = refl; chains = refl; undone = refl; undoing = refl; regrouped = refl }
+of-poses = record { turns = refl; product = refl; chains = refl; undone = refl; undoing = refl; regrouped = refl; sheet-request = refl; sheet-other = refl; sheet-last = refl }
 
 of-lines : OfLines
 unfolding sessions-open

@@ -1,7 +1,9 @@
--- Document 01, "Memory and state" and "Poses and chains", by examples; among poses those of document 02 §5.
+-- Document 01, "Memory and state" and "Poses and chains", by examples; among poses those of document 02 §5 and §14.
 use mathlib.Core.Path.{_≡_}
-use Rattle.model.specs.Base.{[], _∷_, pos, negℤ}
+use Rattle.model.specs.Base.{[], _∷_, pos, negℤ, getD}
+use Rattle.model.specs.Ascii.{ascii}
 use Rattle.model.specs.Pose.{rotOf, inverse}
+use Rattle.model.specs.Sheet.{sheetLines}
 use Rattle.model.specs.Sessions.{replies, lists, taken, number, _⇒_, restarts, Session}
 
 -- ---- "Memory and state"
@@ -89,3 +91,7 @@ pub record OfPoses : Type 0 where
       ∷ "KLT? E" ⇒ replies "Name=E EndCoordinateSystem=ZERO X=1.000000 Y=-3.000000 Z=2.000000 U=0.000000 V=0.000000 W=90.000000 Steps=2\n"
       ∷ "KSD D X 1 Z 2 U 90 W 90" ⇒ taken ∷ "KLN C D" ⇒ taken
       ∷ "KLT? C" ⇒ replies "Name=C EndCoordinateSystem=ZERO X=1.000000 Y=-3.000000 Z=2.000000 U=0.000000 V=0.000000 W=90.000000 Steps=2\n" ∷ [])
+  -- [02 §14] the line that the request has; one with three different angles; the last
+  pub sheet-request : getD sheetLines 40 [] ≡ ascii "180 180 0 0 0 180"
+  pub sheet-other : getD sheetLines 28 [] ≡ ascii "90 270 0 0 270 270"
+  pub sheet-last : getD sheetLines 63 [] ≡ ascii "270 270 270 0 270 0"

@@ -1,20 +1,14 @@
 -- The two tests agree on every byte: that is computed.
 use Prim.Native.Nat.{ℕ, _<_}
-use mathlib.Core.Path.{_≡_, refl}
-use mathlib.Core.Bool.{Bool, true, false, Bool·beq, _||_}
+use mathlib.Core.Path.{_≡_}
+use mathlib.Core.Bool.{Bool, Bool·beq, _||_}
 use native.Mathlib.Omega.{arith}
-use lib.Dec.{T, eqb}
+use lib.Dec.{eqb}
 use Rattle.model.specs.Lists.{any}
 use Rattle.model.specs.Refusals.{ofLine?}
-use Rattle.model.proofs.Upto.{at}
+use Rattle.model.proofs.Upto.{at, alike}
 use Rattle.facts.proofs.numbers.of_line.Statement.{statement}
 use Rattle.facts.proofs.numbers.of_line.Tie as tie
-
-alike : (a b : Bool) → T (Bool·beq a b) → a ≡ b
-alike true true t = refl
-alike true false t = absurd t
-alike false true t = absurd t
-alike false false t = refl
 
 -- the test of the code
 test : ℕ → Bool

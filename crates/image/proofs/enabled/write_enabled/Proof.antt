@@ -3,7 +3,7 @@ use mathlib.Core.Path.{_≡_}
 use mathlib.Core.List.{List, [], _∷_, _++_}
 use native.Mathlib.Omega.{arith}
 use Rattle.model.specs.Image.{whole, numbers, enabledBytes}
-use Rattle.image.proofs.Left.{Left, left-all, left-wrote, left-fits, left-done}
+use Rattle.print.proofs.Left.{Left, left-all, left-wrote, left-fits, left-done}
 use Rattle.image.proofs.EnabledSteps.{single-bytes, pair-bytes}
 use borrow.Author.Needs.{needs}
 use Rattle.image.proofs.enabled.write_enabled.Statement.{statement}

@@ -9,7 +9,7 @@ use Rattle.model.specs.Image.{edition, numbers, systemBytes, enabledBytes, imag
 use Rattle.model.specs.Stored.{systemsOf, memoryOf}
 use Rattle.model.proofs.Image.Limits.{fits}
 use Rattle.chains.proofs.Copies.{length-mapped}
-use Rattle.image.proofs.Left.{Left, left-all, left-wrote, left-fits, left-done}
+use Rattle.print.proofs.Left.{Left, left-all, left-wrote, left-fits, left-done}
 use Rattle.image.proofs.MemoryLeft.{image-parts}
 use borrow.Author.Needs.{needs}
 use Rattle.image.proofs.memories.write_memory.Statement.{statement}

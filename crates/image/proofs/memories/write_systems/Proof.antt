@@ -11,7 +11,7 @@ use Rattle.model.specs.Stored.{systemOf, systemsOf}
 use Rattle.chains.proofs.Copies.{length-mapped, unset}
 use Rattle.model.proofs.Shape.{shaped-count, shaped-at}
 use Rattle.image.proofs.MemoryLeft.{systems-turn, systems-end, offsets-small}
-use Rattle.image.proofs.Left.{Left, left-all, left-wrote, left-fits, left-done}
+use Rattle.print.proofs.Left.{Left, left-all, left-wrote, left-fits, left-done}
 use Rattle.image.proofs.memories.write_systems.Statement.{statement}
 use Rattle.image.proofs.memories.write_systems.Tie as tie
 

@@ -5,7 +5,7 @@ use native.Mathlib.Nat.{mod-lt}
 use native.Mathlib.Omega.{arith}
 use Rattle.model.specs.Image.{whole}
 use Rattle.model.proofs.Image.Wholes.{less, whole-last, whole-more}
-use Rattle.image.proofs.Left.{Left, left-all, left-byte, left-done}
+use Rattle.print.proofs.Left.{Left, left-all, left-byte, left-done}
 use Rattle.image.proofs.numbers.write_number.Statement.{statement}
 use Rattle.image.proofs.numbers.write_number.Tie as tie
 

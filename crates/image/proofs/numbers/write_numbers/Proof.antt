@@ -5,7 +5,8 @@ use native.Mathlib.Omega.{arith}
 use borrow.Author.Needs.{needs}
 use lib.ListN.{length, take, drop, getD}
 use Rattle.model.specs.Image.{whole, numbers}
-use Rattle.image.proofs.Left.{Left, left-all, left-done, left-wrote, left-fits, numbers-turn, numbers-end}
+use Rattle.print.proofs.Left.{Left, left-all, left-done, left-wrote, left-fits}
+use Rattle.image.proofs.NumbersLeft.{numbers-turn, numbers-end}
 use Rattle.image.proofs.numbers.write_numbers.Statement.{statement}
 use Rattle.image.proofs.numbers.write_numbers.Tie as tie
 

@@ -7,7 +7,7 @@ use borrow.Author.Tests.{leb-true}
 use Rattle.model.specs.Limits.{nameLimit}
 use Rattle.model.specs.Image.{numbers, systemBytes}
 use Rattle.model.specs.Stored.{bytesOf, systemOf}
-use Rattle.image.proofs.Left.{Left, left-all, left-wrote, left-fits, left-done}
+use Rattle.print.proofs.Left.{Left, left-all, left-wrote, left-fits, left-done}
 use Rattle.image.proofs.SystemLeft.{system-parts}
 use borrow.Author.Needs.{needs}
 use Rattle.image.proofs.systems.write_system.Statement.{statement}

@@ -56,19 +56,19 @@ first-is c =
 
 returns : tie.Need-returns
 returns c =
-    let p = c .before in
+    let p = c .before .before in
     let r = p .before .before .before .before .args .r in
     let k = p .before .number3 .ensures .0 in
-    let d : (firstNamed (firstAxes r) / 64 ≡ axisNumber (r .c) → ⊥) = λ e. c .if1 .taken (ap (λ (n : ℕ). n / 64) (first-is p) ∙ e ∙ sym k) in
-    rw (ne-eqb _ _ d) at (by-axes r)
+    let d : (firstNamed (firstAxes r) / 64 ≡ axisNumber (r .c) → ⊥) = λ e. c .before .if1 .taken (ap (λ (n : ℕ). n / 64) (first-is p) ∙ e ∙ sym k) in
+    c .triple-at .ensures ∙ (rw (ne-eqb _ _ d) at (by-axes r))
 
 returns-2 : tie.Need-returns-2
 returns-2 c =
-    let p = c .before in
+    let p = c .before .before in
     let r = p .before .before .before .before .args .r in
     let k = p .before .number3 .ensures .0 in
-    let e : firstNamed (firstAxes r) / 64 ≡ axisNumber (r .c) = ap (λ (n : ℕ). n / 64) (sym (first-is p)) ∙ c .if1 .left ∙ k in
-    ap (λ (n : ℕ). triple (n % 64)) (first-is p) ∙ (rw (eq-eqb _ _ e) at (by-axes r))
+    let e : firstNamed (firstAxes r) / 64 ≡ axisNumber (r .c) = ap (λ (n : ℕ). n / 64) (sym (first-is p)) ∙ c .before .if1 .left ∙ k in
+    c .triple-at2 .ensures ∙ ap (λ (n : ℕ). triple (n % 64)) (first-is p) ∙ (rw (eq-eqb _ _ e) at (by-axes r))
 
 pub shown-of-spec : {M : Type 1} → statement M
 shown-of-spec =
@@ -81,6 +81,8 @@ shown-of-spec =
     (λ c. search needs)
     (λ c κs. search needs)
     (λ c. search needs)
-    (λ c. search needs)
+    (λ c κs. search needs)
     returns
+    (λ c. search needs)
+    (λ c κs. search needs)
     returns-2)

@@ -142,7 +142,7 @@ add-at c =
     let l = turn (c .before .before .before .before .before) in
     let k = l .before in
     let n = going-on (k .loop .inv .0) (l .loop-test .taken) (wrote (c .before .before) .place) in
-    record { fits = omega (arith, n, k .loop .inv .0 .long, k .before .before .before .before .before .before .put-fixed-lines .kept .0, start l .good .1 .0 .0) }
+    record { fits = omega (arith, n, k .loop .inv .0 .left .long, k .before .before .before .before .before .before .put-fixed-lines .kept .0, start l .good .1 .0 .0) }
 
 add-i : tie.Need-add-i Inv-loop μ-loop
 add-i c = record { fits = omega (arith, within (turn (c .before .before .before .before .before))) }
@@ -161,7 +161,7 @@ put-byte-requires : tie.Need-put-byte-requires Inv-loop μ-loop
 put-byte-requires c κs = going-within (c .before .before .loop .inv .0)
 
 same-length : tie.Need-same-length Inv-loop μ-loop
-same-length c = let e = c .before .before in let l = e .before .before .before in e .put-byte .kept .0 ∙ l .loop .inv .0 .long ∙ l .before .before .before .before .before .before .put-fixed-lines .kept .0
+same-length c = let e = c .before .before in let l = e .before .before .before in e .put-byte .kept .0 ∙ l .loop .inv .0 .left .long ∙ l .before .before .before .before .before .before .put-fixed-lines .kept .0
 
 returns : tie.Need-returns Inv-loop μ-loop
 returns c =

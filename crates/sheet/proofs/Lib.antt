@@ -1,0 +1,1 @@
+pub mod Parts  -- lines and angles, part by part
