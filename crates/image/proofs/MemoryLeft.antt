@@ -4,10 +4,8 @@ use mathlib.Core.Path.{_≡_, ap, _∙_}
 use mathlib.Core.List.{[], _∷_, _++_, map}
 use mathlib.Core.Bool.{true}
 use native.Mathlib.Omega.{arith}
-use native.Mathlib.Numerals.{add-one}
 use lib.IntN.{ℤ, pos, negsuc, natAbs}
-use lib.ListN.{length, drop, getD, drop-of-length-le}
-use lib.Seq.{drop-cons}
+use lib.ListN.{length, drop, getD}
 use Rattle.model.specs.Limits.{maxSystems}
 use Rattle.model.specs.declared.System.{System as StoredSystem}
 use Rattle.model.specs.declared.Memory.{Memory as StoredMemory}
@@ -20,6 +18,7 @@ use Rattle.model.proofs.Basics.{all-at}
 use Rattle.model.proofs.Image.Limits.{system-within, parts}
 use Rattle.memory.proofs.Laws.{getD-any, system-at}
 use Rattle.model.proofs.Shape.{shaped-count, systemsOf-count}
+use Rattle.print.proofs.Left.{texts-turn, texts-end}
 
 code-large : (z : ℤ) → natAbs z ≤ signedCode z + 1
 code-large (pos n) = omega arith
@@ -35,16 +34,10 @@ module _ (m : StoredMemory) (long : length (m .systems) ≡ maxSystems) (shaped 
 
   pub systems-turn : (i : ℕ) (d : StoredSystem) → i < m .count
       → joined (map systemBytes (drop i (systemsOf m))) ≡ systemBytes (systemOf (getD (m .systems) i d)) ++ joined (map systemBytes (drop (i + 1) (systemsOf m)))
-  unfolding joined
-  systems-turn i d h =
-      let l : i < length (systemsOf m) = omega (arith, systemsOf-count m shaped long) in
-      rw (drop-cons (systemsOf m) i blank l, stored-system i d h, add-one)
+  systems-turn i d h = rw (← stored-system i d h) (texts-turn systemBytes (systemsOf m) i blank (omega (arith, systemsOf-count m shaped long)))
 
   pub systems-end : (i : ℕ) → m .count ≤ i → joined (map systemBytes (drop i (systemsOf m))) ≡ []
-  unfolding joined
-  systems-end i h =
-      let l : length (systemsOf m) ≤ i = omega (arith, systemsOf-count m shaped long) in
-      rw (drop-of-length-le (systemsOf m) l)
+  systems-end i h = texts-end systemBytes (systemsOf m) i (omega (arith, systemsOf-count m shaped long))
 
   -- the offsets of a well-formed memory are small
   pub offsets-small : memoryFine (memoryOf m) ≡ true → (i : ℕ) (d : StoredSystem) → i < m .count → (

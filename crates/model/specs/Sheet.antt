@@ -34,9 +34,12 @@ sheetLine t =
 abbrev pub tripleCount : ℕ
 tripleCount = wholeTurn ^ 3
 
--- [02 §14] a line for each of them, in dictionary order
+-- [02 §14] they in dictionary order, and a line for each
+unfoldable pub triples : List Turns
+triples = table tripleCount triple
+
 unfoldable pub sheet : List ℕ
-sheet = joined (table tripleCount (λ k. sheetLine (triple k)))
+sheet = joined (map sheetLine triples)
 
 -- ---- what is claimed of it, as it stands there in bytes
 

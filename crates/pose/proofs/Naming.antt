@@ -1,15 +1,10 @@
--- Rotations by their numbers, quarter turns by what is left of whole ones, and triples of 0 to 3 quarter turns.
+-- Rotations by their numbers, and quarter turns by what is left of whole ones.
 use mathlib.Core.Path.{_≡_, sym, ap, _∙_}
-use mathlib.Core.Bool.{true}
 use Prim.Native.Nat.{ℕ, _+_, _*_, _/_, _%_, _<_}
 use native.Mathlib.Omega.{arith}
-use Rattle.model.specs.Pose.{after, unturned, times, axisNumber, shown}
-use Rattle.model.specs.WellFormed.{turnsFine}
-use Rattle.model.proofs.Memories.Fine.{turns-of}
+use Rattle.model.specs.Pose.{after, unturned, times, axisNumber}
 use Rattle.model.proofs.Poses.Naming.{axisAt, axisAt-number, times-quarters}
-use Rattle.model.proofs.Poses.Showing.{shown-fine}
-use Rattle.pose.specs.Types.{Dir, Px, Nx, Py, Ny, Pz, Nz, Rot, Turns}
-use Rattle.pose.specs.Poses.{Quarters}
+use Rattle.pose.specs.Types.{Dir, Px, Nx, Py, Ny, Pz, Nz, Rot}
 
 -- ---- numbers of axes and rotations
 
@@ -49,11 +44,3 @@ module _ (q : Rot) (four : after q (after q (after q q)) ≡ unturned) where
 
   pub after-left : (s : Rot) (n k : ℕ) → n % 4 ≡ k → after (times k q) s ≡ after (times n q) s
   after-left s n k e = ap (λ (r : Rot). after r s) (sym (times-left n k e))
-
--- ---- less than a whole turn about each axis
-
-pub quarters-of : (t : Turns) → turnsFine t ≡ true → Quarters t
-quarters-of t f = let q = turns-of t f in record { u-below = omega (arith, q .u); v-below = omega (arith, q .v); w-below = omega (arith, q .w) }
-
-pub shown-quarters : (r : Rot) → Quarters (shown r)
-shown-quarters r = quarters-of (shown r) (shown-fine r)

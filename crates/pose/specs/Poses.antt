@@ -1,9 +1,8 @@
 -- What a pose of the code stands for, and how far off the origin it may be.
-use Prim.Native.Nat.{ℕ, _-_, _^_, _≤_, _<_}
+use Prim.Native.Nat.{ℕ, _-_, _^_, _≤_}
 use lib.IntN.{natAbs}
-use Rattle.model.specs.Limits.{wholeTurn}
 use Rattle.model.specs.Pose.{Pose}
-use Rattle.pose.specs.Types.{Turns, Vec3, StoredPose}
+use Rattle.pose.specs.Types.{Vec3, StoredPose}
 
 -- the pose of the definitions that a pose of the code stands for
 abbrev pub poseOf : StoredPose → Pose
@@ -22,9 +21,3 @@ widest = 2 ^ 63 - 1
 
 abbrev pub reach : ℕ
 reach = 2 ^ 62 - 1
-
--- less than a whole turn about each axis
-pub record Quarters (t : Turns) : Type 0 where
-  pub u-below : t .u < wholeTurn
-  pub v-below : t .v < wholeTurn
-  pub w-below : t .w < wholeTurn

@@ -45,6 +45,10 @@ over-split ys xs i h = over-sets ys xs i ∙ sets-eq ys xs i h ∙ append-assoc 
 pub over-front : (ys xs : List ℕ) → length ys ≤ length xs → over xs 0 ys ≡ written ys xs
 over-front ys xs h = let e : 0 + length ys ≡ length ys = omega arith in over-split ys xs 0 (omega arith) ∙ ap (λ (n : ℕ). ys ++ drop n xs) e
 
+-- and it is what the first bytes are
+pub over-first : (ys xs : List ℕ) → length ys ≤ length xs → take (length ys) (over xs 0 ys) ≡ ys
+over-first ys xs h = ap (take (length ys)) (over-front ys xs h) ∙ take-append-seam ys (drop (length ys) xs)
+
 -- a copy, by what is left of the text at index i: a turn, and the end
 module _ (t xs : List ℕ) (at i : ℕ) where
   pub over-turn : i < length t → over xs (at + i) (drop i t) ≡ over (set xs (at + i) (getD t i 0)) (at + (i + 1)) (drop (i + 1) t)
@@ -93,11 +97,11 @@ rest-room b at n h = rw (length-take, length-drop) (omega arith)
 pub wrote-front : {t b a : List ℕ} {next : ℕ} → length t ≤ length b → Wrote t b 0 a next → (a ≡ written t b) × (next ≡ length t)
 wrote-front {t} {b} h p = (p .bytes ∙ over-front t b h, omega (arith, p .place))
 
--- and it is what the first bytes are
+-- and the first bytes are it
 pub wrote-first : {t b a : List ℕ} {next : ℕ} → length t ≤ length b → Wrote t b 0 a next → (next ≤ length a) × (take next a ≡ t)
 wrote-first {t} {b} h p =
-    let f = wrote-front h p in
-    (rw (p .bytes, length-over) (omega (arith, f .1)), rw (f .1, f .0) (take-append-seam t (drop (length t) b)))
+    let n = wrote-front h p .1 in
+    (rw (p .bytes, length-over) (omega (arith, n)), rw (n, p .bytes) (over-first t b h))
 
 -- ---- digits: the leading ones, then the last k
 

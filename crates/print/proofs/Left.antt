@@ -1,9 +1,12 @@
 -- What is left to write of a text, while its parts are written straight after one another.
-use Prim.Native.Nat.{ℕ, _+_, _≤_}
+use Prim.Native.Nat.{ℕ, _+_, _≤_, _<_}
 use mathlib.Core.Path.{_≡_, refl, sym, _∙_}
-use mathlib.Core.List.{List, [], _∷_, _++_}
+use mathlib.Core.List.{List, [], _∷_, _++_, map}
+use native.Mathlib.Numerals.{add-one}
 use native.Mathlib.Omega.{arith}
-use lib.ListN.{length, set, length-set, length-append}
+use lib.ListN.{length, drop, getD, set, length-set, length-append, drop-of-length-le}
+use lib.Seq.{drop-cons}
+use Rattle.model.specs.Lists.{joined}
 use Rattle.print.specs.Over.{over, Wrote}
 use Rattle.print.proofs.Laws.{length-over, over-append}
 
@@ -46,3 +49,14 @@ module _ {t b a : List ℕ} {at i : ℕ} where
   -- so there is room for the next part
   pub left-fits : (x rest : List ℕ) → Left t at b (x ++ rest) i a → i + length x ≤ length a
   left-fits x rest l = omega (arith, l .room, length-append x rest)
+
+-- ---- the texts of the elements of a list, one after the other
+
+module _ {A : Type 0} (f : A → List ℕ) (l : List A) (i : ℕ) where
+  pub texts-turn : (d : A) → i < length l → joined (map f (drop i l)) ≡ f (getD l i d) ++ joined (map f (drop (i + 1) l))
+  unfolding joined
+  texts-turn d h = rw (drop-cons l i d h, add-one)
+
+  pub texts-end : length l ≤ i → joined (map f (drop i l)) ≡ []
+  unfolding joined
+  texts-end h = rw (drop-of-length-le l h)

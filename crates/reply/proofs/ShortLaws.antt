@@ -1,25 +1,28 @@
 -- Every reply of a well-formed memory is shorter than the least lent buffer.
 use Prim.Native.Nat.{ℕ, zero, suc, _+_, _*_, _≤_, _<_}
+use mathlib.Core.Path.{_≡_}
+use mathlib.Core.Bool.{true}
 use mathlib.Core.List.{List, [], _∷_, _++_, map, append-nil}
 use native.Mathlib.Omega.{arith}
 use native.Mathlib.Decide.{decLt}
 use lib.IntN.{ℤ, pos, natAbs}
 use lib.ListN.{length, length-append}
 use Rattle.model.specs.Lists.{joined}
-use Rattle.model.specs.Limits.{quarterTurn, offsetLimit, bufferLimit}
+use Rattle.model.specs.Limits.{quarterTurn, mostTurns, offsetLimit, bufferLimit}
 use Rattle.model.specs.Kinds.{ofKind, ofGroup}
 use Rattle.model.specs.Pose.{shown}
 use Rattle.model.specs.Memory.{System, Ref, fixedRef, userRef, systemAt, nameOf, typeOf, predName, named}
 use Rattle.model.specs.Chain.{steps, resultant}
+use Rattle.model.specs.WellFormed.{turnsFine}
 use Rattle.model.specs.Use.{operatingPlaces, inGroup, enabledRefs}
 use Rattle.model.specs.Request.{enabledOnes, systemsAll, links, resultants, resultantOf}
 use Rattle.model.specs.Reply.{value, degrees, sixValues, listing, everySystem, enabledLine, linkLine, systemLine, resultantLine, listed}
-use Rattle.model.proofs.Memories.Fine.{Systems, own-of, fine-of, blank-beyond}
+use Rattle.model.proofs.Memories.Fine.{Systems, own-of, turns-of, fine-of, blank-beyond}
 use Rattle.model.proofs.Memories.Named.{named-place, place-within}
 use Rattle.model.proofs.Words.{legalName-short}
-use Rattle.pose.specs.Poses.{Within, Quarters}
+use Rattle.pose.specs.Poses.{Within}
 use Rattle.pose.proofs.Bounds.{within-more}
-use Rattle.pose.proofs.Naming.{shown-quarters}
+use Rattle.model.proofs.Poses.Showing.{shown-fine}
 use Rattle.chains.specs.Walk.{farthest, Walkable}
 use Rattle.chains.proofs.Reaching.{few-steps, resultant-far}
 use Rattle.chains.proofs.Ready.{walkable}
@@ -41,11 +44,12 @@ wholes = 5
 coordinate-short : (z : ℤ) → natAbs z ≤ farthest → length (value z) ≤ wholes + 8
 coordinate-short z h = value-short wholes z (omega arith) (omega arith)
 
-turn-short : (n : ℕ) → n < 4 → length (degrees n) ≤ wholes + 8
+turn-short : (n : ℕ) → n ≤ mostTurns → length (degrees n) ≤ wholes + 8
 turn-short n h = value-short wholes (pos (n * quarterTurn)) (omega arith) (omega arith)
 
-six-short : (t : Vec3) (r : Turns) → Within farthest t → Quarters r → length (sixValues t r) ≤ 96
-six-short t r w q =
+six-short : (t : Vec3) (r : Turns) → Within farthest t → turnsFine r ≡ true → length (sixValues t r) ≤ 96
+six-short t r w f =
+    let q = turns-of r f in
     omega (
       arith,
       length-six t r,
@@ -54,9 +58,9 @@ six-short t r w q =
       coordinate-short (t .x) (w .x-within),
       coordinate-short (t .y) (w .y-within),
       coordinate-short (t .z) (w .z-within),
-      turn-short (r .u) (q .u-below),
-      turn-short (r .v) (q .v-below),
-      turn-short (r .w) (q .w-below),
+      turn-short (r .u) (q .u),
+      turn-short (r .v) (q .v),
+      turn-short (r .w) (q .w),
     )
 
 kind-short : (k : Kind) → length (ofKind k .shown) ≤ 9
@@ -117,7 +121,7 @@ module _ (l : List System) (fine : Systems l) (w : Walkable l) where
   unfolding resultantLine joined
   resultant-short r h =
       let p = resultant l (r .place) in
-      let six = six-short (p .at) (shown (p .rot)) (resultant-far l w (r .place) h) (shown-quarters (p .rot)) in
+      let six = six-short (p .at) (shown (p .rot)) (resultant-far l w (r .place) h) (shown-fine (p .rot)) in
       let count = decimal-short 2 (steps l (r .place)) (omega arith) (omega (arith, few-steps l w (r .place) h)) in
       simp (length-append, append-nil) (omega (arith, name-short (r .group) (r .place), group-short (r .group) .2, six, count))
 

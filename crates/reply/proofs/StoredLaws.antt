@@ -1,6 +1,6 @@
 -- What a well-formed stored memory gives the writers.
 use Prim.Native.Nat.{ℕ, zero, suc, _≤_, _<_}
-use mathlib.Core.Path.{_≡_, ap}
+use mathlib.Core.Path.{_≡_, refl, ap}
 use mathlib.Core.Bool.{true}
 use mathlib.Core.List.{List}
 use native.Mathlib.Omega.{arith}
@@ -8,13 +8,12 @@ use native.Mathlib.Decide.{decLt}
 use borrow.Author.Tests.{leb-true}
 use lib.ListN.{length, getD}
 use Rattle.model.specs.Limits.{nameLimit, offsetLimit}
-use Rattle.model.specs.Memory.{System, systemAt, noTurn}
+use Rattle.model.specs.Memory.{System, systemAt}
 use Rattle.model.specs.Stored.{systemOf, systemsOf, memoryOf, memoryShaped}
-use Rattle.model.specs.WellFormed.{memoryFine}
+use Rattle.model.specs.WellFormed.{turnsFine, memoryFine}
 use Rattle.model.proofs.Memories.Fine.{Systems, own-of, fine-of, preds-within, blank-beyond}
-use Rattle.pose.specs.Poses.{Quarters, reach}
+use Rattle.pose.specs.Poses.{reach}
 use Rattle.pose.proofs.Bounds.{within-more}
-use Rattle.pose.proofs.Naming.{quarters-of}
 use Rattle.chains.proofs.Copies.{unset}
 use Rattle.chains.proofs.Laid.{stored-at}
 use Rattle.chains.proofs.Ready.{walkable}
@@ -24,18 +23,15 @@ use Rattle.reply.specs.Lines.{Writable}
 
 -- ---- the turns of a system
 
-no-quarters : Quarters noTurn
-no-quarters = record { u-below = omega arith; v-below = omega arith; w-below = omega arith }
-
 -- where no system stands, there is no turn
-pub turns-at : (l : List System) → Systems l → (k : ℕ) → Quarters (systemAt l k .turns)
+pub turns-at : (l : List System) → Systems l → (k : ℕ) → turnsFine (systemAt l k .turns) ≡ true
 unfolding systemAt
-turns-at l f zero = no-quarters
+turns-at l f zero = refl
 turns-at l f (suc i) = go (decLt (length l) (suc i))
   where
-    go : Dec (length l < suc i) → Quarters (systemAt l (suc i) .turns)
-    go (yes h) = rw (blank-beyond l (suc i) h) no-quarters
-    go (no h) = quarters-of (systemAt l (suc i) .turns) (own-of (systemAt l (suc i)) (f .own (suc i) (omega arith, omega arith)) .turns)
+    go : Dec (length l < suc i) → turnsFine (systemAt l (suc i) .turns) ≡ true
+    go (yes h) = rw (blank-beyond l (suc i) h) refl
+    go (no h) = own-of (systemAt l (suc i)) (f .own (suc i) (omega arith, omega arith)) .turns
 
 -- ---- a memory with shape that is well formed; long is what owning it tells
 

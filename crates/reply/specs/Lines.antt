@@ -1,5 +1,5 @@
 -- The lines of the lists, of the system that a line shows rather than of its place, and a list by what follows its first lines.
-use Rattle.model.specs.Base.{ℕ, zero, suc, List, [], _∷_, _++_, length}
+use Rattle.model.specs.Base.{ℕ, zero, suc, List, [], _∷_, _++_, true, length}
 use Prim.Native.Nat.{_≤_}
 use mathlib.Core.Path.{_≡_}
 use Rattle.reply.specs.Types.{Vec3, Turns, Group, Operating, Orientational, Levelling, StoredSystem}
@@ -8,9 +8,10 @@ use Rattle.model.specs.Lists.{joined}
 use Rattle.model.specs.Limits.{nameLimit}
 use Rattle.model.specs.Kinds.{ofKind, ofGroup}
 use Rattle.model.specs.Memory.{System, Ref, fixedRef}
+use Rattle.model.specs.WellFormed.{turnsFine}
 use Rattle.model.specs.Machine.{written}
 use Rattle.model.specs.Reply.{sixValues, decimal}
-use Rattle.pose.specs.Poses.{Within, Quarters, reach}
+use Rattle.pose.specs.Poses.{Within, reach}
 
 -- ---- what the calls promise and the writers ask
 
@@ -24,7 +25,7 @@ pub record Replied (text before after : List ℕ) (count : ℕ) : Type 0 where
 pub record Writable (s : StoredSystem) : Type 0 where
   pub name-fits : s .name .len ≤ nameLimit
   pub offsets-fit : Within reach (s .offset)
-  pub turns-fit : Quarters (s .turns)
+  pub turns-fit : turnsFine (s .turns) ≡ true
 
 -- ---- the lines
 

@@ -14,14 +14,17 @@ use model::Vec3;
 use print::put_decimal;
 use print::put_name;
 use print::put_text;
+ghost use mathlib.Core.Path.{_≡_};
+ghost use mathlib.Core.Bool.{true};
 ghost use mathlib.Core.List.{[]};
 ghost use Prim.Native.Nat.{_+_, _≤_, _<_};
 ghost use lib.ListN.{length};
 ghost use Rattle.model.specs.Limits.{nameLimit};
 ghost use Rattle.model.specs.Memory.{fixedRef};
+ghost use Rattle.model.specs.WellFormed.{turnsFine};
 ghost use Rattle.model.specs.Stored.{bytesOf, systemOf};
 ghost use Rattle.model.specs.Reply.{systemLine, linkLine};
-ghost use Rattle.pose.specs.Poses.{Within, Quarters, reach};
+ghost use Rattle.pose.specs.Poses.{Within, reach};
 ghost use Rattle.print.specs.Over.{Wrote};
 ghost use Rattle.reply.specs.Lines.{Writable, systemText, predText, linkText, enabledText, resultantText, further, atFixed};
 
@@ -153,7 +156,7 @@ pub fn put_resultant(
     r: Turns,
     steps: u8,
 ) -> usize
-    requires { ⌜ (name .len ≤ nameLimit) × Within reach t × Quarters r × (at + length (resultantText (bytesOf name) g t r steps) ≤ length (now out)) ⌝ }
+    requires { ⌜ (name .len ≤ nameLimit) × Within reach t × (turnsFine r ≡ true) × (at + length (resultantText (bytesOf name) g t r steps) ≤ length (now out)) ⌝ }
     ensures { λ n. ⌜ Wrote (resultantText (bytesOf name) g t r steps) (now (out .entry)) at (now (out .exit)) n ⌝ }
 {
     let a = put_text(out, at, b"Name=");

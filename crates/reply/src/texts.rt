@@ -6,12 +6,15 @@ use model::Vec3;
 use print::put_degrees;
 use print::put_text;
 use print::put_value;
+ghost use mathlib.Core.Path.{_≡_};
+ghost use mathlib.Core.Bool.{true};
 ghost use Prim.Native.Nat.{_+_, _≤_};
 ghost use lib.ListN.{length};
 ghost use Rattle.model.specs.Kinds.{ofKind, ofGroup};
+ghost use Rattle.model.specs.WellFormed.{turnsFine};
 ghost use Rattle.model.specs.Reply.{sixValues};
 ghost use Rattle.print.specs.Over.{Wrote};
-ghost use Rattle.pose.specs.Poses.{Within, Quarters, reach};
+ghost use Rattle.pose.specs.Poses.{Within, reach};
 ghost use Rattle.reply.specs.Values.{byGroup, offsetsText, turnsText};
 
 // A user system's type.
@@ -71,7 +74,7 @@ fn put_offsets(out: &mut [u8], at: usize, t: Vec3) -> usize
 
 // U= to W=, each after a space.
 fn put_turns(out: &mut [u8], at: usize, r: Turns) -> usize
-    requires { ⌜ Quarters r × (at + length (turnsText r) ≤ length (now out)) ⌝ }
+    requires { ⌜ (turnsFine r ≡ true) × (at + length (turnsText r) ≤ length (now out)) ⌝ }
     ensures { λ n. ⌜ Wrote (turnsText r) (now (out .entry)) at (now (out .exit)) n ⌝ }
 {
     let a = put_text(out, at, b" U=");
@@ -84,7 +87,7 @@ fn put_turns(out: &mut [u8], at: usize, r: Turns) -> usize
 
 // The six values, each after a space and its axis.
 pub fn put_six_values(out: &mut [u8], at: usize, t: Vec3, r: Turns) -> usize
-    requires { ⌜ Within reach t × Quarters r × (at + length (sixValues t r) ≤ length (now out)) ⌝ }
+    requires { ⌜ Within reach t × (turnsFine r ≡ true) × (at + length (sixValues t r) ≤ length (now out)) ⌝ }
     ensures { λ n. ⌜ Wrote (sixValues t r) (now (out .entry)) at (now (out .exit)) n ⌝ }
 {
     let i = put_offsets(out, at, t);

@@ -11,11 +11,10 @@ use Rattle.lines.specs.Feed.{Answer, kept}
 use Rattle.lines.specs.Whole.{Clips}
 use Rattle.lines.proofs.Whole.{whole-input}
 use Rattle.print.specs.Over.{Wrote}
-use Rattle.print.proofs.Laws.{wrote-then, length-over}
+use Rattle.print.proofs.Laws.{wrote-then, length-over, over-first}
 use Rattle.script.specs.Directive.{Order, longestLine, unclear, order}
 use Rattle.script.specs.Obey.{done, nextState, answer}
 use Rattle.script.specs.Run.{Place, place, following, answering, Whole, Keeps}
-use Rattle.script.proofs.HexLaws.{read-back}
 
 -- ---- a line that is too long
 
@@ -43,7 +42,7 @@ whole = whole-input answering clips
 pub wrote-first : {t before after : List ℕ} {n : ℕ} → Wrote t before 0 after n → n ≤ length before → take n after ≡ t
 wrote-first {t} {before} {after} {n} w h =
     let e : n ≡ length t = omega (arith, w .place) in
-    rw (w .bytes, e) (read-back t before (omega arith))
+    rw (w .bytes, e) (over-first t before (omega arith))
 
 pub wrote-long : {t before after : List ℕ} {at n : ℕ} → Wrote t before at after n → length after ≡ length before
 wrote-long {t} {before} {after} {at} w = ap length (w .bytes) ∙ length-over t before at

@@ -8,12 +8,12 @@ use native.Mathlib.Numerals.{add-one}
 use native.Mathlib.Omega.{arith}
 use native.Mathlib.Decide.{ℕ-discrete}
 use lib.Dec.{eqb}
-use lib.ListN.{length, take, drop, getD, set, drop-of-length-le}
-use lib.Seq.{drop-cons, take-append-seam}
+use lib.ListN.{length, drop, getD, set, drop-of-length-le}
+use lib.Seq.{drop-cons}
 use borrow.Author.Tests.{eq-eqb, ne-eqb, lt-ltb, le-ltb}
 use Rattle.model.proofs.Basics.{and-join, and-false}
 use Rattle.print.specs.Over.{over}
-use Rattle.print.proofs.Laws.{length-over, over-front}
+use Rattle.print.proofs.Laws.{length-over, over-first}
 use Rattle.script.specs.declared.hex.Decoded.{Decoded}
 use Rattle.script.specs.Directive.{bytesTold}
 use Rattle.script.specs.Hex.{digitValue, digit?, pairValue, hex?, pairsRead, unhexed, Decodes, glyph, hexed}
@@ -119,15 +119,11 @@ pairs-half (a ∷ b ∷ bs) = pick (digit? a && digit? b) (pairs-half bs)
     pick true h = omega arith
     pick false h = omega arith
 
--- a text at the front of a buffer is read back
-pub read-back : (t b : List ℕ) → length t ≤ length b → take (length t) (over b 0 t) ≡ t
-read-back t b h = ap (take (length t)) (over-front t b h) ∙ take-append-seam t (drop (length t) b)
-
 pub told-bytes : {h before after : List ℕ} {r : Decoded} → length h ≤ 2 * length before → Decodes h before r after → bytesTold r after ≡ unhexed h
 unfolding unhexed
 told-bytes {h} {before} g d =
     rw (d .answer, d .bytes)
-    (ap (λ (t : List ℕ). cond (hex? h) (some t) none) (read-back (pairsRead h) before (omega (arith, pairs-half h))))
+    (ap (λ (t : List ℕ). cond (hex? h) (some t) none) (over-first (pairsRead h) before (omega (arith, pairs-half h))))
 
 pub count-inside : {h before after : List ℕ} {r : Decoded} → length h ≤ 2 * length before → Decodes h before r after → r .count ≤ length after
 count-inside {h} {before} g d = rw (d .answer, d .bytes, length-over (pairsRead h) before 0) (omega (arith, pairs-half h))

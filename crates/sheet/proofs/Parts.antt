@@ -1,16 +1,18 @@
 -- A line of the sheet and its angles, part by part, in the order in which they are written.
-use Prim.Native.Nat.{ℕ, suc, _+_, _-_, _≤_, _<_}
-use mathlib.Core.Path.{_≡_, ap, _∙_}
-use mathlib.Core.List.{List, [], _∷_, _++_, append-assoc, append-nil}
+use Prim.Native.Nat.{ℕ, _+_, _≤_, _<_}
+use mathlib.Core.Path.{_≡_, refl, ap, _∙_}
+use mathlib.Core.List.{List, [], _∷_, _++_, map, append-assoc, append-nil}
 use native.Mathlib.Omega.{arith}
 use lib.Dec.{leb→le}
-use lib.ListN.{length, length-append}
+use lib.ListN.{length, drop, getD, length-append}
 use Rattle.model.specs.declared.Turns.{Turns}
-use Rattle.model.specs.Lists.{joined, table}
+use Rattle.model.specs.Lists.{joined}
 use Rattle.model.specs.Limits.{bufferLimit}
 use Rattle.model.specs.Pose.{rotOf, triple, shown}
-use Rattle.model.specs.Sheet.{spaced, wholeDegrees, sheetLine, tripleCount, sheet, angles}
+use Rattle.model.specs.Sheet.{spaced, wholeDegrees, sheetLine, tripleCount, triples, sheet, angles}
+use Rattle.model.proofs.Basics.{length-table, table-at}
 use Rattle.model.proofs.Open.{definitions-open}
+use Rattle.print.proofs.Left.{texts-turn, texts-end}
 
 spaced-three : (a b c : List ℕ) → spaced (a ∷ b ∷ c ∷ []) ≡ a ++ (32 ∷ (b ++ (32 ∷ c)))
 unfolding spaced joined
@@ -38,26 +40,30 @@ module _ (t : Turns) where
     pub length-line : length (sheetLine t) ≡ length (angles t) + length (angles s) + 2
     length-line = ap length line-parts ∙ simp length-append (omega arith)
 
+-- ---- the triples
+
+pub triples-count : length triples ≡ tripleCount
+unfolding triples
+triples-count = length-table tripleCount triple
+
+pub triples-at : (k : ℕ) → k < tripleCount → getD triples k (triple 0) ≡ triple k
+unfolding triples
+triples-at k h = table-at tripleCount triple (triple 0) k h
+
 -- ---- the lines that are left from the k-th on
 
 abbrev pub linesFrom : ℕ → List ℕ
-linesFrom k = joined (table (tripleCount - k) (λ i. sheetLine (triple (k + i))))
+linesFrom k = joined (map sheetLine (drop k triples))
 
 pub lines-all : sheet ≡ linesFrom 0
 unfolding sheet
-lines-all = let z : (i : ℕ) → i ≡ 0 + i = λ i. omega arith in λ j. joined (table tripleCount (λ i. sheetLine (triple (z i j))))
+lines-all = refl
 
 pub lines-turn : (k : ℕ) → k < tripleCount → linesFrom k ≡ sheetLine (triple k) ++ linesFrom (k + 1)
-unfolding joined table
-lines-turn k h =
-    let n : tripleCount - k ≡ suc (tripleCount - (k + 1)) = omega arith in
-    let z : k + 0 ≡ k = omega arith in
-    let f : (i : ℕ) → k + suc i ≡ k + 1 + i = λ i. omega arith in
-    ap (λ (m : ℕ). joined (table m (λ i. sheetLine (triple (k + i))))) n ∙ (λ j. sheetLine (triple (z j)) ++ joined (table (tripleCount - (k + 1)) (λ i. sheetLine (triple (f i j)))))
+lines-turn k h = rw (← triples-at k h) (texts-turn sheetLine triples k (triple 0) (omega (arith, triples-count)))
 
 pub lines-end : (k : ℕ) → tripleCount ≤ k → linesFrom k ≡ []
-unfolding joined table
-lines-end k h = let n : tripleCount - k ≡ 0 = omega arith in ap (λ (m : ℕ). joined (table m (λ i. sheetLine (triple (k + i))))) n
+lines-end k h = texts-end sheetLine triples k (omega (arith, triples-count))
 
 -- ---- the whole
 

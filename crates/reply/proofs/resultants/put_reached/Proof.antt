@@ -1,4 +1,4 @@
-use Rattle.pose.proofs.Naming.{shown-quarters}
+use Rattle.model.proofs.Poses.Showing.{shown-fine}
 use borrow.Author.Needs.{needs}
 use Rattle.reply.proofs.resultants.put_reached.Statement.{statement}
 use Rattle.reply.proofs.resultants.put_reached.Tie as tie
@@ -6,7 +6,7 @@ use Rattle.reply.proofs.resultants.put_reached.Tie as tie
 put-resultant-requires : tie.Need-put-resultant-requires
 put-resultant-requires c κs =
     let s = c .before .before .before .before in
-    rw (c .before .shown-of .ensures) (s .pre .0 .name-fits, s .pre .0 .near, shown-quarters (s .args .r .rot), s .pre .1)
+    rw (c .before .shown-of .ensures) (s .pre .0 .name-fits, s .pre .0 .near, shown-fine (s .args .r .rot), s .pre .1)
 
 returns : tie.Need-returns
 returns c = let k = c .before .before in rw (k .before .before .shown-of .ensures) at (k .put-resultant .ensures)

@@ -1,4 +1,5 @@
 use native.Mathlib.Omega.{arith}
+use Rattle.model.proofs.Memories.Fine.{turns-of}
 use Rattle.print.proofs.Laws.{wrote-then}
 use Rattle.reply.specs.Values.{turnsText}
 use Rattle.reply.proofs.ValueLaws.{length-turns}
@@ -32,7 +33,7 @@ put-degrees-requires : tie.Need-put-degrees-requires
 put-degrees-requires c κs =
     let t = c .before .before .before in
     let s = start t in
-    (omega (arith, s .pre .0 .u-below), omega (arith, s .pre .1, length-turns (s .args .r), t .put-text .ensures .place, t .put-text .kept .0))
+    (omega (arith, turns-of (s .args .r) (s .pre .0) .u), omega (arith, s .pre .1, length-turns (s .args .r), t .put-text .ensures .place, t .put-text .kept .0))
 
 put-text-requires-2 : tie.Need-put-text-requires-2
 put-text-requires-2 c κs =
@@ -47,7 +48,7 @@ put-degrees-requires-2 c κs =
     let v = value1 u in
     let t = text1 v in
     let s = start t in
-    (omega (arith, s .pre .0 .v-below), omega (arith, s .pre .1, length-turns (s .args .r), t .put-text .ensures .place, t .put-text .kept .0, v .put-degrees .ensures .place, v .put-degrees .kept .0, u .put-text2 .ensures .place, u .put-text2 .kept .0))
+    (omega (arith, turns-of (s .args .r) (s .pre .0) .v), omega (arith, s .pre .1, length-turns (s .args .r), t .put-text .ensures .place, t .put-text .kept .0, v .put-degrees .ensures .place, v .put-degrees .kept .0, u .put-text2 .ensures .place, u .put-text2 .kept .0))
 
 put-text-requires-3 : tie.Need-put-text-requires-3
 put-text-requires-3 c κs =
@@ -66,7 +67,7 @@ put-degrees-requires-3 c κs =
     let v = value1 u in
     let t = text1 v in
     let s = start t in
-    (omega (arith, s .pre .0 .w-below), omega (arith, s .pre .1, length-turns (s .args .r), t .put-text .ensures .place, t .put-text .kept .0, v .put-degrees .ensures .place, v .put-degrees .kept .0, u .put-text2 .ensures .place, u .put-text2 .kept .0, w .put-degrees2 .ensures .place, w .put-degrees2 .kept .0, x .put-text3 .ensures .place, x .put-text3 .kept .0))
+    (omega (arith, turns-of (s .args .r) (s .pre .0) .w), omega (arith, s .pre .1, length-turns (s .args .r), t .put-text .ensures .place, t .put-text .kept .0, v .put-degrees .ensures .place, v .put-degrees .kept .0, u .put-text2 .ensures .place, u .put-text2 .kept .0, w .put-degrees2 .ensures .place, w .put-degrees2 .kept .0, x .put-text3 .ensures .place, x .put-text3 .kept .0))
 
 returns : tie.Need-returns
 unfolding turnsText
