@@ -176,15 +176,32 @@ def damaged(image, r):
     return bytes(data)
 
 
+def asked(r):
+    """A name for the question of use: mostly one that may be there, sometimes with small letters, a byte more or a byte less, or any bytes at all."""
+    name = r.choice(SMALL_SET + ["ZERO", "PI_BASE", "PI_LEVELLING", "HEXAPOD"]).encode()
+    pick = r.random()
+    if pick < 0.05:
+        return name.lower()
+    if pick < 0.1:
+        return name + bytes([r.choice([0, 32, 65, r.randrange(256)])])
+    if pick < 0.15:
+        return name[:-1]
+    if pick < 0.17:
+        return bytes(r.randrange(256) for _ in range(r.randrange(40)))
+    return name
+
+
 def no_directive(r):
-    return r.choice([b"", b"X", b"r", b"L", b"L 4b", b"L 4 4096", b"L 4g 4096", b"L 4b 65537", b"L 4b 4096 1", b"W", b"W -1", b"W 1 2", b"I", b"I 0",
+    return r.choice([b"", b"X", b"r", b"U", b"u 4b", b"U 4", b"U 4b 4b", b"L", b"L 4b", b"L 4 4096", b"L 4g 4096", b"L 4b 65537", b"L 4b 4096 1", b"W", b"W -1", b"W 1 2", b"I", b"I 0",
                      b"R R", b"N 0", b"\tR", b"W 99999999999999999999999", b"I " + b"ff" * r.randrange(40), b"L - 18446744073709551616"])
 
 
 def random_directive(r, images):
     pick = r.random()
-    if pick < 0.72:
+    if pick < 0.66:
         return b"L %s %s" % (spelled(random_line(r, SMALL_SET), r), length(r))
+    if pick < 0.74:
+        return b"U " + spelled(asked(r), r)
     if pick < 0.82:
         return b"W " + length(r)
     if pick < 0.88:
@@ -210,3 +227,11 @@ def lines_of(kind):
         return b"\n".join(random_lines(7, 300000)) + b"\n"
     make, count = KINDS[kind]
     return "\n".join(make(random.Random(1), count)).encode() + b"\n"
+
+
+def questions(name, count):
+    """The question of use for one name, so many times, where sixteen systems hang on one another and the last is enabled."""
+    names = [chr(65 + i) for i in range(16)]
+    lines = ["KSW " + n for n in names] + ["KLN %s %s" % pair for pair in zip(names[1:], names)] + ["KEN " + names[-1]]
+    made = [b"L %s 4096" % line.encode().hex().encode() for line in lines]
+    return b"\n".join(made + [b"U " + name.encode().hex().encode()] * count) + b"\n"

@@ -1,6 +1,6 @@
 pub mod Walks
 pub mod Copies
-pub mod Used
+pub mod Searching
 pub mod Same
 pub mod Laid
 pub mod Reaching

@@ -1,16 +1,16 @@
 -- Lists of systems with the same predecessors have the same chains; with the same own poses too, the same resultants.
 use Prim.Native.Nat.{ℕ, zero, suc}
 use mathlib.Core.Path.{_≡_, refl, sym, ap, _∙_}
-use mathlib.Core.Bool.{_||_}
-use mathlib.Core.List.{List, map-map, map-id}
+use mathlib.Core.List.{List, _∷_, map, map-map, map-id}
 use lib.Dec.{eqb}
 use lib.ListN.{length, getD, length-map, List·getD-map}
 use Rattle.model.specs.declared.Enabled.{Enabled}
-use Rattle.model.specs.Lists.{all, any, table, least}
+use Rattle.model.specs.Lists.{all, any, table, least, joined}
 use Rattle.model.specs.Pose.{followed, rotOf}
 use Rattle.model.specs.Memory.{System, Ref, systemAt, blank}
 use Rattle.model.specs.Chain.{predOf, hop, steps, chain, onChain, noRing, ownPose, poseOver, resultant}
-use Rattle.model.specs.Use.{enabledRefs, inUse}
+use Rattle.model.specs.Use.{inGroup, enabledRefs, inUse, lookedAt}
+use Rattle.model.proofs.Chains.Looked.{looked-place}
 use Rattle.chains.specs.Flat.{predsOf, linkedBy, linkedTo, memoryBy}
 use Rattle.chains.specs.Frames.{framesOf, frameOf}
 
@@ -51,9 +51,9 @@ module _ (l k : List System) (e : predsOf l ≡ predsOf k) where
       hops : hop l ≡ hop k
       hops = λ d i q. same-hop i q d
 
-  pub same-in-use : (e : Enabled) (q : ℕ) → inUse (record { systems = l; enabled = e }) q ≡ inUse (record { systems = k; enabled = e }) q
-  unfolding inUse
-  same-in-use e q = λ d. any (λ (r : Ref). eqb q (r .place) || same-on-chain q (r .place) d) (enabledRefs e)
+  pub same-looked : (e : Enabled) → lookedAt (record { systems = l; enabled = e }) ≡ lookedAt (record { systems = k; enabled = e })
+  unfolding lookedAt
+  same-looked e = λ d. joined (map (λ (r : Ref). r ∷ map (inGroup (r .group)) (same-chain (r .place) d)) (enabledRefs e))
 
   pub same-resultant : ((q : ℕ) → ownPose l q ≡ ownPose k q) → (q : ℕ) → resultant l q ≡ resultant k q
   unfolding resultant poseOver
@@ -75,8 +75,11 @@ module _ (l : List System) (ps : List ℕ) (links : ps ≡ predsOf l) where
   pub links-on-chain : (a q : ℕ) → onChain (linkedBy ps) a q ≡ onChain l a q
   links-on-chain = same-on-chain (linkedBy ps) l linked
 
+  pub links-looked : (e : Enabled) → lookedAt (memoryBy ps e) ≡ lookedAt (record { systems = l; enabled = e })
+  links-looked = same-looked (linkedBy ps) l linked
+
   pub links-in-use : (e : Enabled) (k : ℕ) → inUse (memoryBy ps e) k ≡ inUse (record { systems = l; enabled = e }) k
-  links-in-use = same-in-use (linkedBy ps) l linked
+  links-in-use e k = sym (looked-place _ k) ∙ ap (any (λ (r : Ref). eqb k (r .place))) (links-looked e) ∙ looked-place _ k
 
 -- ---- the frames of a list of systems
 

@@ -1,18 +1,15 @@
 -- One link at a time: what the loops over flat links show of the definitions.
 use Prim.Native.Nat.{ℕ, zero, suc, _+_, _-_, _<_, _≤_}
-use mathlib.Core.Path.{_≡_, refl, sym, ap, _∙_}
-use mathlib.Core.Bool.{Bool, true, false, _||_}
+use mathlib.Core.Path.{_≡_, refl, ap}
+use mathlib.Core.Bool.{true, false}
 use mathlib.Core.List.{List}
 use mathlib.Core.Logic.{⊎-elim}
 use native.Mathlib.Omega.{arith}
-use native.Mathlib.Numerals.{add-one, sub-one}
-use borrow.Author.Tests.{eq-eqb, ne-eqb}
-use lib.Dec.{eqb}
+use native.Mathlib.Numerals.{sub-one}
 use lib.ListN.{length, getD, length-map, List·getD-map}
-use Rattle.model.specs.Lists.{any, table, least}
 use Rattle.model.specs.Memory.{System, systemAt}
-use Rattle.model.specs.Chain.{predOf, hop, steps, chain, onChain, noRing}
-use Rattle.model.proofs.Basics.{either, least-now, least-later}
+use Rattle.model.specs.Chain.{predOf, hop, chain, noRing}
+use Rattle.model.proofs.Basics.{either}
 use Rattle.model.proofs.Chains.Hops.{hop-zero, ring-free, ring-free-from}
 use Rattle.chains.specs.Flat.{linkedTo, linkedBy}
 
@@ -42,43 +39,9 @@ module _ (l : List System) where
   hop-one zero q h = absurd (omega arith)
   hop-one (suc n) q h = rw (sub-one (suc n))
 
-  -- ---- the walk that looks for a place
-
-  -- place a is among those that at most n links from q meet, as far as the fixed system
-  unfoldable pub met : ℕ → ℕ → ℕ → Bool
-  met a n q = any (eqb a) (table (least n (λ i. eqb (hop l i q) 0)) (λ i. hop l (suc i) q))
-
-  met-chain : (a q : ℕ) → met a (length l + 1) q ≡ onChain l a q
-  unfolding met onChain chain steps
-  met-chain a q = rw (add-one (length l))
-
-  pub met-none : (a n q : ℕ) → n ≡ 0 → met a n q ≡ false
-  unfolding met any table least
-  met-none a n q e = rw e
-
-  pub met-ended : (a n q : ℕ) → q ≡ 0 → met a n q ≡ false
-  unfolding met any table least hop
-  met-ended a zero q e = refl
-  met-ended a (suc n) q e = rw (least-now n (λ i. eqb (hop l i q) 0) (eq-eqb q 0 e))
-
-  met-one : (a n q : ℕ) → 0 < n → (q ≡ 0 → ⊥) → met a n q ≡ (eqb a (predOf l q) || met a (n - 1) (predOf l q))
-  unfolding met any table least hop
-  met-one a zero q h e = absurd (omega arith)
-  met-one a (suc n) q h e = rw (sub-one (suc n), least-later n (λ i. eqb (hop l i q) 0) (ne-eqb q 0 e))
-
-  -- a link to p, which is a or not
-  pub met-hit : (a n q p : ℕ) → 0 < n → (q ≡ 0 → ⊥) → p ≡ predOf l q → a ≡ p → met a n q ≡ true
-  met-hit a n q p h e r s = met-one a n q h e ∙ rw (eq-eqb a (predOf l q) (s ∙ r))
-
-  pub met-past : (a n q p : ℕ) → 0 < n → (q ≡ 0 → ⊥) → p ≡ predOf l q → (a ≡ p → ⊥) → met a n q ≡ met a (n - 1) p
-  met-past a n q p h e r s = met-one a n q h e ∙ rw (← r, ne-eqb a p s)
-
 -- ---- flat links are as many as their systems
 
 module _ (ps : List ℕ) where
-  pub met-all : (a q : ℕ) → met (linkedBy ps) a (length ps + 1) q ≡ onChain (linkedBy ps) a q
-  met-all a q = ap (λ (n : ℕ). met (linkedBy ps) a (n + 1) q) (sym (length-map ps linkedTo)) ∙ met-chain (linkedBy ps) a q
-
   pub no-ring-by : ((q : ℕ) → q < length ps + 1 → hop (linkedBy ps) (length ps) q ≡ 0) → noRing (linkedBy ps) ≡ true
   no-ring-by h = ring-free-from (linkedBy ps) (rw (length-map ps linkedTo) (λ q b. h q (omega arith)))
 

@@ -2,15 +2,12 @@
 use Prim.Native.Nat.{ℕ, _≤_}
 use mathlib.Core.Path.{_≡_}
 use mathlib.Core.List.{List, [], map}
-use mathlib.Core.Bool.{Bool, _||_}
-use lib.Dec.{eqb}
 use lib.ListN.{take}
 use Rattle.model.specs.declared.Kind.the-variants.{Ksd}
 use Rattle.model.specs.declared.Enabled.{Enabled}
 use Rattle.model.specs.Limits.{maxSystems}
 use Rattle.model.specs.Pose.{origin}
 use Rattle.model.specs.Memory.{System, Memory, noTurn}
-use Rattle.model.specs.Chain.{onChain}
 
 -- the predecessors' places
 abbrev pub predsOf : List System → List ℕ
@@ -25,10 +22,6 @@ linkedBy ps = map linkedTo ps
 
 abbrev pub memoryBy : List ℕ → Enabled → Memory
 memoryBy ps e = record { systems = linkedBy ps; enabled = e }
-
--- place k is the place q, or on its chain
-abbrev pub usedBy : List ℕ → ℕ → ℕ → Bool
-usedBy ps k q = eqb k q || onChain (linkedBy ps) k q
 
 -- the first count of the stored places are the predecessors of the systems l
 pub record LinksOf (l : List System) (preds : List ℕ) (count : ℕ) : Type 0 where

@@ -1,3 +1,4 @@
 pub mod Flat
+pub mod Searches
 pub mod Frames
 pub mod Walk

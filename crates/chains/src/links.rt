@@ -1,18 +1,16 @@
 // The links of a memory: what the questions of ring, chain and use look at.
 use facts::limits::MAX_SYSTEMS;
-use model::Enabled;
 use model::Memory;
-use model::OperatingPart;
 ghost use mathlib.Core.Path.{_≡_};
-ghost use Prim.Native.Nat.{min};
+ghost use Prim.Native.Nat.{_-_, min};
 ghost use lib.Dec.{eqb};
 ghost use lib.ListN.{length};
 ghost use Rattle.model.specs.Limits.{maxSystems};
 ghost use Rattle.model.specs.Chain.{predOf, hop, onChain, noRing};
-ghost use Rattle.model.specs.Use.{inUse, operatingPlaces};
-ghost use Rattle.model.specs.Lists.{any};
+ghost use Rattle.model.specs.Lists.{search, after};
 ghost use Rattle.model.specs.Stored.{systemsOf};
-ghost use Rattle.chains.specs.Flat.{linkedBy, LinksOf, memoryBy, usedBy};
+ghost use Rattle.chains.specs.Flat.{linkedBy, LinksOf};
+ghost use Rattle.chains.specs.Searches.{searchOf, down};
 
 // The predecessors' places of the first count systems.
 pub struct Links {
@@ -88,61 +86,49 @@ pub fn no_ring(preds: &[u8]) -> bool
     true
 }
 
+// What a walk that looks for a place gives: whether the place turned up, and how many systems were looked at, that one among them.
+pub struct Search {
+    pub found: bool,
+    pub looked: usize,
+}
+
+// From place q down its chain until place k turns up, or the fixed system has been looked at. So many were looked at before; when they are as many as
+// end says, it stops all the same, since links may go round.
+pub fn look_down(preds: &[u8], k: usize, q: usize, before: usize, end: usize) -> Search
+    ensures { λ r. ⌜ searchOf r ≡ after before (search (eqb k) (down (linkedBy (now (preds .entry))) (end - before) q)) ⌝ }
+{
+    let mut at = q;
+    let mut looked = before;
+    while looked < end {
+        looked += 1;
+        if at == k {
+            return Search {
+                found: true,
+                looked,
+            };
+        }
+        if at == 0 {
+            return Search {
+                found: false,
+                looked,
+            };
+        }
+        at = pred_of(preds, at);
+    }
+    Search {
+        found: false,
+        looked,
+    }
+}
+
 // Place a is on the chain of place q.
 pub fn on_chain(preds: &[u8], a: usize, q: usize) -> bool
     ensures { λ r. ⌜ r ≡ onChain (linkedBy (now (preds .entry))) a q ⌝ }
 {
-    let mut at = q;
-    let mut more = preds.len() + 1;
-    while 0 < more {
-        if at == 0 {
-            return false;
-        }
-        at = pred_of(preds, at);
-        if a == at {
-            return true;
-        }
-        more -= 1;
+    if q == 0 {
+        return false;
     }
-    false
-}
-
-// Place k is the enabled place q, or on its chain.
-fn used_by(preds: &[u8], k: usize, q: u8) -> bool
-    ensures { λ r. ⌜ r ≡ usedBy (now (preds .entry)) k q ⌝ }
-{
-    let at = q as usize;
-    if k == at {
-        return true;
-    }
-    on_chain(preds, k, at)
-}
-
-// The operating part, the work half before the tool half.
-fn used_operating(part: OperatingPart, preds: &[u8], k: usize) -> bool
-    ensures { λ r. ⌜ r ≡ any (usedBy (now (preds .entry)) k) (operatingPlaces part) ⌝ }
-{
-    match part {
-        OperatingPart::Single(p) => used_by(preds, k, p),
-        OperatingPart::Pair(w, t) => {
-            if used_by(preds, k, w) {
-                return true;
-            }
-            used_by(preds, k, t)
-        }
-    }
-}
-
-// Place k is in use. The enabled ones are tried in the order of KEN?, and the first hit ends it.
-pub fn in_use(enabled: Enabled, preds: &[u8], k: usize) -> bool
-    ensures { λ r. ⌜ r ≡ inUse (memoryBy (now (preds .entry)) enabled) k ⌝ }
-{
-    let part = enabled.operating;
-    if used_operating(part, preds, k) {
-        return true;
-    }
-    if used_by(preds, k, enabled.orientational) {
-        return true;
-    }
-    used_by(preds, k, enabled.levelling)
+    let below = pred_of(preds, q);
+    let search = look_down(preds, a, below, 0, preds.len() + 1);
+    search.found
 }

@@ -1,8 +1,9 @@
 // The conditions of numbers 9 to 13, over what the names mean and the links that were seen.
 use crate::subject::Subject;
 use chains::links::Links;
-use chains::links::in_use;
 use chains::links::on_chain;
+use chains::used::at_place;
+use chains::used::in_use;
 use facts::groups::guarded;
 use facts::groups::order_of;
 use facts::kinds::code_of;
@@ -53,12 +54,14 @@ pub fn wrong_pred(a: Subject, b: Subject) -> bool
 
 // There is a system at the place, and it is in use.
 fn used(preds: &[u8], e: Enabled, place: u8) -> bool
+    requires { ⌜ length (now preds) ≤ maxSystems ⌝ }
     ensures { λ r. ⌜ r ≡ usedAt (memoryBy (now (preds .entry)) e) place ⌝ }
 {
     if place == 0 {
         return false;
     }
-    in_use(e, preds, place as usize)
+    let search = in_use(e, preds, at_place(place as usize));
+    search.found
 }
 
 // There is a system at the place, and it is the other one or on its chain.

@@ -6,7 +6,8 @@ use mathlib.Core.Bool.{true, false, _&&_}
 use mathlib.Core.Logic.{⊎-elim}
 use Rattle.model.specs.declared.State.{State as StoredState}
 use Rattle.model.specs.WellFormed.{wellFormed}
-use Rattle.model.specs.Stored.{FineState, FineMemory, ofOutcome, ofBegun, shaped, stateOf, viewOf, lineAnswer, imageAnswer, restartAnswer}
+use Rattle.model.specs.Stored.{FineState, FineMemory, ofOutcome, ofBegun, shaped, stateOf, viewOf, lineAnswer, imageAnswer, restartAnswer, useAnswer}
+use Rattle.model.specs.Machine.{refusesUse}
 use Rattle.model.proofs.Basics.{and-split, either}
 use Rattle.model.proofs.Views.{view-holds, view-shapeless}
 use Rattle.model.proofs.Memories.Fine.{state-of}
@@ -50,6 +51,10 @@ module _ (s : StoredState) (ill : shaped s && wellFormed (stateOf s) ≡ false) 
       parted
       (λ e. rw (view-shapeless s e) refl)
       (λ e w. rw (view-holds s e) (ap ofOutcome (other-numbers-exact .image-one (stateOf s) b w)))
+
+  pub ill-use : (n : List ℕ) → useAnswer (viewOf s) n ≡ refusesUse
+  unfolding useAnswer
+  ill-use n = parted (λ e. rw (view-shapeless s e)) (λ e w. rw (view-holds s e) (other-numbers-exact .use-one (stateOf s) n w))
 
 -- ---- answers
 

@@ -1,6 +1,6 @@
 -- What the public calls give in a well-formed state, and what a start gives.
 use Prim.Native.Nat.{ℕ}
-use mathlib.Core.Path.{_≡_, refl}
+use mathlib.Core.Path.{_≡_, refl, sym, ap, _∙_}
 use mathlib.Core.List.{List}
 use mathlib.Core.Option.{some, none}
 use mathlib.Core.Bool.{true, false}
@@ -9,9 +9,11 @@ use Rattle.model.specs.declared.Memory.{Memory as StoredMemory}
 use Rattle.model.specs.Memory.{started}
 use Rattle.model.specs.Refusals.{short}
 use Rattle.model.specs.Image.{image, accepted}
-use Rattle.model.specs.Machine.{stepped, writeImage, startImage, answered}
-use Rattle.model.specs.Stored.{FineState, holds, ofOutcome, ofBegun, memoryShaped, stateOf, memoryOf, viewOf, lineAnswer, imageAnswer, restartAnswer}
-use Rattle.model.proofs.Ladder.Exact.{start-none, start-some}
+use Rattle.model.specs.Lists.{Search}
+use Rattle.model.specs.Use.{useTest}
+use Rattle.model.specs.Machine.{stepped, writeImage, startImage, answered, tellsUse}
+use Rattle.model.specs.Stored.{FineState, holds, ofOutcome, ofBegun, memoryShaped, stateOf, memoryOf, viewOf, lineAnswer, imageAnswer, restartAnswer, useAnswer}
+use Rattle.model.proofs.Ladder.Exact.{start-none, start-some, use-fine}
 use Rattle.model.proofs.Ladder.Refusing.{restart-fine, image-short, image-fine}
 use Rattle.image.specs.declared.ImageRead.{ImageRead}
 use Rattle.image.specs.Accepted.{Answers}
@@ -37,6 +39,11 @@ module _ (s : StoredState) (f : FineState s) where
   pub image-taken : (b c : List ℕ) (n : ℕ) → short b ≡ false → c ≡ answered (stateOf s) (image (stateOf s .permanent)) b .buffer →
       n ≡ answered (stateOf s) (image (stateOf s .permanent)) b .count → record { state = viewOf s; number = 0; count = n; buffer = c } ≡ imageAnswer (viewOf s) b
   image-taken b c n e p q = rw (image-is b, image-fine (stateOf s) b (f .formed) e, view-holds s (f .shape), p, q) refl
+
+  -- [02 §2] the question of use, by what the test gives
+  pub use-taken : (n : List ℕ) (t : Search) → t ≡ useTest (stateOf s .volatile) n → tellsUse t ≡ useAnswer (viewOf s) n
+  unfolding useAnswer
+  use-taken n t e = rw (view-holds s (f .shape)) (ap tellsUse e ∙ sym (use-fine (stateOf s) n (f .formed)))
 
 -- ---- starts
 

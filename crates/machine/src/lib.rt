@@ -1,4 +1,4 @@
-// The machine's public calls. None asks anything of its caller: a state that is not well formed comes back as it is, with 1. What each promises, an equation
+// The machine's public calls. None asks anything of its caller: a state that is not well formed comes back as it is, with 1 (`in_use` gives none back). What each promises, an equation
 // for all that it returns and the whole lent buffer, is what a history of stored states knows of it (Histories.antt of model).
 use engine::answer::Stepped;
 use facts::limits::BUFFER_LIMIT;
@@ -8,14 +8,15 @@ use facts::numbers::NO_IMAGE;
 use facts::numbers::SHORT;
 use memory::factory::factory_memory;
 use memory::fine::state_fine;
+use memory::used::use_of;
 use model::Memory;
 use model::State;
 ghost use mathlib.Core.Path.{_≡_};
-ghost use Rattle.model.specs.Machine.{startFactory};
+ghost use Rattle.model.specs.Machine.{startFactory, refusesUse};
 ghost use Rattle.model.specs.Stored.{viewOf, holds};
-ghost use Rattle.model.specs.Histories.{LinePromise, RestartPromise, WritePromise, ImagePromise};
+ghost use Rattle.model.specs.Histories.{LinePromise, RestartPromise, WritePromise, ImagePromise, UsePromise};
 ghost use Rattle.engine.specs.Answers.{returned};
-ghost use Rattle.machine.specs.Calls.{returnedAlone, startedWith};
+ghost use Rattle.machine.specs.Calls.{returnedAlone, startedWith, usageOf};
 
 // What a call without a lent buffer gives: the next state, and the number (0: accepted).
 pub struct Begun {
@@ -115,5 +116,39 @@ pub fn start_image(bytes: &[u8]) -> Begun
     Begun {
         state,
         number: NO_IMAGE,
+    }
+}
+
+// What the question of use gives: its number, whether the name is in use, and how many systems were looked at.
+pub struct Use {
+    pub number: u8,
+    pub used: bool,
+    pub looked: usize,
+}
+
+// No answer, for a state that is not well formed.
+fn unanswered() -> Use
+    ensures { λ r. ⌜ usageOf r ≡ refusesUse ⌝ }
+{
+    Use {
+        number: ILL_FORMED,
+        used: false,
+        looked: 0,
+    }
+}
+
+// Whether a name is in use in the volatile memory. Its bytes count as they are; a name that no system has is not in use.
+pub fn in_use(s: State, name: &[u8]) -> Use
+    ensures { λ r. ⌜ UsePromise s (now (name .entry)) (usageOf r) ⌝ }
+{
+    if !state_fine(s) {
+        return unanswered();
+    }
+    let m = s.volatile;
+    let search = use_of(m, name);
+    Use {
+        number: ACCEPTED,
+        used: search.found,
+        looked: search.looked,
     }
 }

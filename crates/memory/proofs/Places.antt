@@ -22,15 +22,15 @@ use Rattle.memory.proofs.Laws.{length-systems, system-at}
 use Rattle.model.proofs.Shape.{shaped-at, shaped-count}
 
 -- the system at index j has the name
-abbrev has : List System → List ℕ → ℕ → Bool
+abbrev pub has : List System → List ℕ → ℕ → Bool
 has l n j = same n (getD l j blank .name)
 
 module _ (l : List System) (n : List ℕ) where
-  place-hit : (i : ℕ) → i < length l → has l n i ≡ true → ((j : ℕ) → j < i → has l n j ≡ false) → placeNamed l n ≡ suc i
+  pub place-hit : (i : ℕ) → i < length l → has l n i ≡ true → ((j : ℕ) → j < i → has l n j ≡ false) → placeNamed l n ≡ suc i
   unfolding placeNamed systemAt
   place-hit i h e f = let k = least-is (length l) (has l n) i h e f in rw (k, lt-ltb i (length l) h)
 
-  place-none : ((j : ℕ) → j < length l → has l n j ≡ false) → placeNamed l n ≡ 0
+  pub place-none : ((j : ℕ) → j < length l → has l n j ≡ false) → placeNamed l n ≡ 0
   unfolding placeNamed systemAt
   place-none f = go (decLt (least (length l) (has l n)) (length l))
     where

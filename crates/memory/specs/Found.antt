@@ -1,4 +1,5 @@
 -- What a search by name answers, in the definitions' terms.
+use Prim.Native.Nat.{_<_}
 use mathlib.Core.Path.{_≡_}
 use Rattle.model.specs.Base.{ℕ, List, Option, true}
 use Rattle.model.specs.declared.Memory.{Memory as StoredMemory}
@@ -24,6 +25,12 @@ unfoldable pub foundPlace : Found → ℕ
 foundPlace (User k) = k
 foundPlace (Fixed g) = 0
 foundPlace Absent = 0
+
+-- a user system's place is not that of a fixed one
+abbrev pub Real : Found → Type 0
+Real (User k) = 0 < k
+Real (Fixed g) = Unit {0}
+Real Absent = Unit {0}
 
 -- the name n stands at this place of the memory m, 0 if it stands at none, and this is the system there
 pub record Stands (m : StoredMemory) (n : List ℕ) (place : ℕ) (s : StoredSystem) : Type 0 where

@@ -1,6 +1,7 @@
 // Systems by their names. Every stored value has an answer: a count beyond the array means the whole array.
 use crate::factory::blank_system;
 use crate::names::clipped;
+use crate::names::has_bytes;
 use crate::names::same_name;
 use chains::links::Links;
 use chains::links::held;
@@ -20,9 +21,9 @@ ghost use Rattle.model.specs.Lists.{same};
 ghost use Rattle.model.specs.Memory.{System as SystemOf, placeNamed, fixedNamed, find};
 ghost use Rattle.model.specs.Kinds.{groups};
 ghost use Rattle.model.specs.Told.{orNumber};
-ghost use Rattle.model.specs.Stored.{bytesOf, systemOf, systemsOf};
+ghost use Rattle.model.specs.Stored.{bytesOf, systemOf, systemsOf, memoryOf};
 ghost use Rattle.chains.specs.Flat.{LinksOf};
-ghost use Rattle.memory.specs.Found.{foundTold, foundPlace, Stands};
+ghost use Rattle.memory.specs.Found.{foundTold, foundPlace, Real, Stands};
 ghost use Rattle.memory.specs.Put.{holding};
 
 // What a name means: the user system at a place, a group's fixed system, or nothing, which number 7 says.
@@ -89,10 +90,27 @@ pub fn places_named(m: Memory, a: Name, b: Name) -> Places
     }
 }
 
+// The place of the user system whose name has these bytes, 0 if there is none.
+fn place_named(m: Memory, t: &[u8]) -> u8
+    ensures { λ r. ⌜ r ≡ placeNamed (systemsOf m) (now (t .entry)) ⌝ }
+{
+    let count = held(m.count);
+    let mut i = 0;
+    while i < count {
+        let s = m.systems[i];
+        let name = s.name;
+        if has_bytes(name, t) {
+            return i as u8 + 1;
+        }
+        i += 1;
+    }
+    0
+}
+
 // The fixed system of that name.
 fn fixed_named(t: &[u8]) -> Found
     ensures { λ r. ⌜ ((l : List SystemOf) → foundTold l r ≡ orNumber 7 (fixedNamed groups (now (t .entry)))) ⌝ }
-    ensures { λ r. ⌜ foundPlace r ≡ 0 ⌝ }
+    ensures { λ r. ⌜ (foundPlace r ≡ 0) × Real r ⌝ }
 {
     if same_bytes(t, b"ZERO") {
         return Found::Fixed(Group::Operating);
@@ -106,15 +124,31 @@ fn fixed_named(t: &[u8]) -> Found
     Found::Absent
 }
 
-// What a name means whose user system stands at a place, 0 if it has none.
-pub fn found_at(place: u8, n: Name) -> Found
-    ensures { λ r. ⌜ ((l : List SystemOf) (e : Enabled) → place ≡ placeNamed l (bytesOf n) → foundTold l r ≡ orNumber 7 (find (holding l e) (bytesOf n))) ⌝ }
-    ensures { λ r. ⌜ foundPlace r ≡ place ⌝ }
+// What bytes mean as a name whose user system stands at a place, 0 if it has none.
+fn found_bytes(place: u8, t: &[u8]) -> Found
+    ensures { λ r. ⌜ ((l : List SystemOf) (e : Enabled) → place ≡ placeNamed l (now (t .entry)) → foundTold l r ≡ orNumber 7 (find (holding l e) (now (t .entry)))) ⌝ }
+    ensures { λ r. ⌜ (foundPlace r ≡ place) × Real r ⌝ }
 {
     if 0 < place {
         return Found::User(place);
     }
+    fixed_named(t)
+}
+
+// The same of a stored name.
+pub fn found_at(place: u8, n: Name) -> Found
+    ensures { λ r. ⌜ ((l : List SystemOf) (e : Enabled) → place ≡ placeNamed l (bytesOf n) → foundTold l r ≡ orNumber 7 (find (holding l e) (bytesOf n))) ⌝ }
+    ensures { λ r. ⌜ foundPlace r ≡ place ⌝ }
+{
     let k = clipped(n.len);
     let x = n.bytes;
-    fixed_named(&x[..k])
+    found_bytes(place, &x[..k])
+}
+
+// The same of any bytes, in a memory.
+pub fn found_named(m: Memory, t: &[u8]) -> Found
+    ensures { λ r. ⌜ (foundTold (systemsOf m) r ≡ orNumber 7 (find (memoryOf m) (now (t .entry)))) × Real r ⌝ }
+{
+    let place = place_named(m, t);
+    found_bytes(place, t)
 }

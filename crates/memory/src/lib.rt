@@ -7,3 +7,4 @@ pub mod find;
 pub mod fine;
 pub mod kinds;
 pub mod names;
+pub mod used;

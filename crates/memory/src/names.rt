@@ -23,14 +23,21 @@ pub fn clipped(n: u8) -> usize
     len
 }
 
+// The name has these bytes.
+pub fn has_bytes(n: Name, t: &[u8]) -> bool
+    ensures { λ r. ⌜ r ≡ same (now (t .entry)) (bytesOf n) ⌝ }
+{
+    let k = clipped(n.len);
+    let x = n.bytes;
+    same_bytes(t, &x[..k])
+}
+
 pub fn same_name(a: Name, b: Name) -> bool
     ensures { λ r. ⌜ r ≡ same (bytesOf a) (bytesOf b) ⌝ }
 {
-    let m = clipped(a.len);
-    let n = clipped(b.len);
+    let k = clipped(a.len);
     let x = a.bytes;
-    let y = b.bytes;
-    same_bytes(&x[..m], &y[..n])
+    has_bytes(b, &x[..k])
 }
 
 // A name's bytes: a capital, then capitals, digits and underscores, few enough.

@@ -14,7 +14,8 @@ use Rattle.model.specs.Request.{reading, asks, change, define, copy, set
 use Rattle.model.specs.Refusals.{precedence, Rung, short, ladder}
 use Rattle.model.specs.Effects.{withError}
 use Rattle.model.specs.Image.{image, accepted}
-use Rattle.model.specs.Machine.{Outcome, refused, answered, began, stepped, restart, writeImage, startFactory, startImage}
+use Rattle.model.specs.Use.{useTest}
+use Rattle.model.specs.Machine.{Outcome, refused, answered, began, stepped, restart, writeImage, startFactory, startImage, tellsUse, refusesUse, askUse}
 use Rattle.model.specs.Trace.{Call, Line, afterCalls, afterLines}
 use Rattle.model.specs.Demand.{Start, startState}
 
@@ -76,7 +77,7 @@ pub record NumberExact (st : State) (line b : List ℕ) : Type 0 where
   pub ordered : inOrder precedence (ladder st line b) ≡ true
   pub once : noneTwice precedence ≡ true
 
--- [Image; Errors 1, 2, 14] the calls that are no lines: a restart meets only 1, writing only 1 and 2, a start only 14
+-- [Image; Errors 1, 2, 14; 02 §2] the calls that are no lines: a restart and the question of use meet only 1, writing only 1 and 2, a start only 14
 pub record OtherNumbersExact : Type 0 where
   pub restart-one : (st : State) → wellFormed st ≡ false → restart st ≡ began st 1
   pub restart-taken : (st : State) → wellFormed st ≡ true → restart st ≡ began (restarted st) 0
@@ -85,6 +86,8 @@ pub record OtherNumbersExact : Type 0 where
   pub image-taken : (st : State) (b : List ℕ) → wellFormed st ≡ true → short b ≡ false → writeImage st b ≡ answered st (image (st .permanent)) b
   pub start-refused : (bytes : List ℕ) → accepted bytes ≡ none → startImage bytes ≡ began startFactory 14
   pub start-taken : (bytes : List ℕ) (m : Memory) → accepted bytes ≡ some m → startImage bytes ≡ began (started m) 0
+  pub use-one : (st : State) (n : List ℕ) → wellFormed st ≡ false → askUse st n ≡ refusesUse
+  pub use-taken : (st : State) (n : List ℕ) → wellFormed st ≡ true → askUse st n ≡ tellsUse (useTest (st .volatile) n)
 
 -- ---- a line asks for nothing illegal
 

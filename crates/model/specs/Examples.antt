@@ -1,4 +1,4 @@
--- Document 01 by examples: for each paragraph short sessions, from lines of bytes to replies, images and numbers (specs/Sessions.antt says how they are
+-- The documents by examples: for each paragraph short sessions, from lines of bytes to replies, images and numbers (specs/Sessions.antt says how they are
 -- written). A session starts at the factory. The statements only; proofs/Table computes them.
 use Rattle.model.specs.Examples.Memories.{OfMemories, OfPoses}
 use Rattle.model.specs.Examples.Lines.{OfLines}
@@ -7,6 +7,7 @@ use Rattle.model.specs.Examples.Numbers.{OfNumbers}
 use Rattle.model.specs.Examples.Images.{OfImages}
 use Rattle.model.specs.Examples.Histories.{OfHistories}
 use Rattle.model.specs.Examples.Storage.{OfStorage}
+use Rattle.model.specs.Examples.Use.{OfUse}
 use Rattle.model.specs.Examples.Bench.{OfBench}
 pub mod Memories  -- "Memory and state", "Poses and chains"
 pub mod Lines  -- "A line"
@@ -15,6 +16,7 @@ pub mod Numbers  -- "Error numbers"
 pub mod Images  -- "Image"
 pub mod Histories  -- "The two lists of demand 3", "ksrun"
 pub mod Storage  -- stored values
+pub mod Use  -- document 02 §2
 pub mod Bench  -- ksbench
 
 pub record Examples : Type 0 where
@@ -27,4 +29,5 @@ pub record Examples : Type 0 where
   pub images : OfImages
   pub histories : OfHistories
   pub storage : OfStorage
+  pub in-use : OfUse
   pub bench : OfBench

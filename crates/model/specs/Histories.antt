@@ -11,11 +11,11 @@ use Rattle.model.specs.Memory.{Memory}
 use Rattle.model.specs.Request.{reading}
 use Rattle.model.specs.Reply.{listing, everySystem, resultantLine}
 use Rattle.model.specs.Image.{accepted}
-use Rattle.model.specs.Machine.{startFactory, startImage}
+use Rattle.model.specs.Machine.{Usage, startFactory, startImage}
 use Rattle.model.specs.Trace.{Call, Line, line, restarting}
 use Rattle.model.specs.Demand.{Start, factory-start, image-start, asksToEnable, AfterBoth}
 use Rattle.model.specs.Checklist.{Checked}
-use Rattle.model.specs.Stored.{stateOf, viewOf, holds, Answered, Restarted, ofBegun, lineAnswer, imageAnswer, restartAnswer}
+use Rattle.model.specs.Stored.{stateOf, viewOf, holds, Answered, Restarted, ofBegun, lineAnswer, imageAnswer, restartAnswer, useAnswer}
 
 -- ---- what a call returns, and what it promises of that
 
@@ -51,6 +51,10 @@ WritePromise s b r = standsFor r ≡ imageAnswer (viewOf s) b
 -- [Image] the promise of a start from bytes
 abbrev pub ImagePromise : List ℕ → ReturnedAlone → Type 0
 ImagePromise bytes r = standsAlone r ≡ ofBegun (startImage bytes)
+
+-- [02 §2] the promise of the question of use in s
+abbrev pub UsePromise : StoredState → List ℕ → Usage → Type 0
+UsePromise s n r = r ≡ useAnswer (viewOf s) n
 
 -- ---- histories
 

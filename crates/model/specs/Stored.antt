@@ -6,7 +6,7 @@ use Rattle.model.specs.Lists.{all}
 use Rattle.model.specs.Limits.{maxSystems, nameLimit}
 use Rattle.model.specs.Memory.{System, Memory, State}
 use Rattle.model.specs.WellFormed.{memoryFine, wellFormed}
-use Rattle.model.specs.Machine.{Outcome, Begun, stepped, restart, writeImage}
+use Rattle.model.specs.Machine.{Outcome, Begun, Usage, stepped, restart, writeImage, refusesUse, askUse}
 
 -- ---- values
 
@@ -98,3 +98,8 @@ imageAnswer (holds st) b = ofOutcome (writeImage st b)
 unfoldable pub restartAnswer : View → Restarted
 restartAnswer (shapeless s) = record { state = shapeless s; number = 1 }
 restartAnswer (holds st) = ofBegun (restart st)
+
+-- [02 §2] the question of use; it gives no state back
+unfoldable pub useAnswer : View → List ℕ → Usage
+useAnswer (shapeless s) n = refusesUse
+useAnswer (holds st) n = askUse st n

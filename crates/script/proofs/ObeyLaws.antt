@@ -9,13 +9,14 @@ use Rattle.model.specs.Stored.{View, shapeless, holds, viewOf, lineAnswer, imag
 use Rattle.lines.proofs.Lent.{Shown, shown-line, shown-image}
 use Rattle.print.specs.Over.{Wrote}
 use Rattle.script.specs.declared.obey.Obeyed.{Obeyed}
+use Rattle.script.specs.Hex.{hexed}
 use Rattle.script.specs.Directive.{Order, unclear, order}
 use Rattle.script.specs.Answer.{complaint}
 use Rattle.script.specs.Obey.{Done, lent, blank, done, nextState, answer, Answers, Obeys}
 
 -- what a call shows, over views
 abbrev shownDone : Shown → Done
-shownDone s = record { state = holds (s .state); number = s .number; text = s .text }
+shownDone s = record { state = holds (s .state); number = s .number; text = hexed (s .text) }
 
 -- a call that gives the same is answered the same
 pub answers-by : {d e : Done} {before after : List ℕ} {at : ℕ} {o : Obeyed} → d ≡ e → Answers d before at after o → Answers e before at after o

@@ -2,20 +2,21 @@
 use Prim.Native.Nat.{ℕ, _≤_}
 use mathlib.Core.Path.{_≡_, refl, sym, ap, _∙_}
 use mathlib.Core.List.{List, [], _∷_}
-use mathlib.Core.Bool.{true, false}
+use mathlib.Core.Bool.{true, false, _||_}
+use mathlib.Core.Logic.{⊎-elim}
 use mathlib.Core.Option.{none, some}
 use lib.ListN.{length, take}
 use Rattle.model.specs.Ascii.{ascii}
 use Rattle.model.specs.Lists.{same}
-use Rattle.model.proofs.Basics.{same→≡}
+use Rattle.model.proofs.Basics.{either, or-false, same→≡}
 use Rattle.print.specs.Over.{over}
 use Rattle.script.specs.declared.hex.Decoded.{Decoded}
 use Rattle.script.specs.declared.parse.Length.{Length}
 use Rattle.script.specs.declared.parse.Length.the-variants.{Bytes, Wrong}
 use Rattle.script.specs.declared.parse.Directive.{Directive}
-use Rattle.script.specs.declared.parse.Directive.the-variants.{Line, Write, Image, Malformed}
+use Rattle.script.specs.declared.parse.Directive.the-variants.{Line, Write, Image, Use, Malformed}
 use Rattle.script.specs.Hex.{pairsRead}
-use Rattle.script.specs.Directive.{lengthTold, lengthOf, bytesOf, Spelled, writeOrder, startOrder, lineOrder, twoFields, threeFields, hexField, Bounded, Understood, orderOf}
+use Rattle.script.specs.Directive.{unclear, lengthTold, lengthOf, bytesOf, Spelled, writeOrder, startOrder, useOrder, lineOrder, twoFields, threeFields, hexField, Bounded, Understood, orderOf}
 use Rattle.script.proofs.LengthLaws.{length-bound}
 
 -- bytes that were read, or not
@@ -47,18 +48,31 @@ module _ (w v : List ℕ) where
   unfolding twoFields hexField same pairsRead over
   two-write b l t e = record { order = write-order l b ∙ rw (t, e); bytes = rw (same→≡ w (ascii "W") t); bounded = write-bounded l v b e }
 
-  pub two-other : (b : List ℕ) → same w (ascii "W") ≡ false → same w (ascii "I") ≡ false → Understood (twoFields w v) (hexField (w ∷ v ∷ [])) b Malformed b
+  pub two-other : (b : List ℕ) → same w (ascii "W") ≡ false → same w (ascii "I") || same w (ascii "U") ≡ false → Understood (twoFields w v) (hexField (w ∷ v ∷ [])) b Malformed b
   unfolding twoFields hexField pairsRead over
-  two-other b f g = record { order = rw (f, g); bytes = rw g; bounded = tt }
+  two-other b f g =
+      let h = or-false (same w (ascii "I")) (same w (ascii "U")) g in
+      record { order = rw (f, h .0, h .1); bytes = rw g; bounded = tt }
 
-  module _ {before after : List ℕ} {d : Decoded} (f : same w (ascii "W") ≡ false) (t : same w (ascii "I") ≡ true) (s : Spelled v before d after) where
-    pub two-image : d .ok ≡ true → Understood (twoFields w v) (hexField (w ∷ v ∷ [])) before (Image (d .count)) after
+  -- a field of digits, for an image or a name
+  module _ {before after : List ℕ} {d : Decoded} (f : same w (ascii "W") ≡ false) (t : same w (ascii "I") || same w (ascii "U") ≡ true) (s : Spelled v before d after) where
+    pub two-image : same w (ascii "I") ≡ true → d .ok ≡ true → Understood (twoFields w v) (hexField (w ∷ v ∷ [])) before (Image (d .count)) after
     unfolding twoFields hexField
-    two-image e = record { order = ap startOrder (taken s e) ∙ rw (f, t); bytes = rw t (s .bytes); bounded = s .inside }
+    two-image i e = record { order = ap startOrder (taken s e) ∙ rw (f, i); bytes = rw t (s .bytes); bounded = s .inside }
+
+    pub two-name : same w (ascii "I") ≡ false → d .ok ≡ true → Understood (twoFields w v) (hexField (w ∷ v ∷ [])) before (Use (d .count)) after
+    unfolding twoFields hexField
+    two-name i e = record { order = ap useOrder (taken s e) ∙ rw (f, i, rw i at t); bytes = rw t (s .bytes); bounded = s .inside }
 
     pub two-wrong : d .ok ≡ false → Understood (twoFields w v) (hexField (w ∷ v ∷ [])) before Malformed after
     unfolding twoFields hexField
-    two-wrong e = record { order = ap startOrder (untaken s e) ∙ rw (f, t); bytes = rw t (s .bytes); bounded = tt }
+    two-wrong e = record { order = ⊎-elim image name (either (same w (ascii "I"))); bytes = rw t (s .bytes); bounded = tt }
+      where
+        image : same w (ascii "I") ≡ true → unclear ≡ twoFields w v
+        image i = ap startOrder (untaken s e) ∙ rw (f, i)
+
+        name : same w (ascii "I") ≡ false → unclear ≡ twoFields w v
+        name i = ap useOrder (untaken s e) ∙ rw (f, i, rw i at t)
 
 -- ---- three fields
 

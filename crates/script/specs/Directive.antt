@@ -2,7 +2,7 @@
 use Prim.Native.Nat.{ℕ, zero, suc, _-_, _≤_}
 use mathlib.Core.Path.{_≡_}
 use mathlib.Core.List.{List, [], _∷_}
-use mathlib.Core.Bool.{cond, _&&_}
+use mathlib.Core.Bool.{cond, _&&_, _||_}
 use mathlib.Core.Option.{Option, none, some}
 use lib.Dec.{leb}
 use lib.ListN.{length, take, drop}
@@ -17,7 +17,7 @@ use Rattle.script.specs.declared.hex.Decoded.{Decoded}
 use Rattle.script.specs.declared.parse.Length.{Length}
 use Rattle.script.specs.declared.parse.Length.the-variants.{Bytes, Wrong}
 use Rattle.script.specs.declared.parse.Directive.{Directive}
-use Rattle.script.specs.declared.parse.Directive.the-variants.{Line, Restart, Write, Image, Factory, Malformed}
+use Rattle.script.specs.declared.parse.Directive.the-variants.{Line, Restart, Write, Image, Factory, Use, Malformed}
 
 -- ---- limits
 
@@ -75,6 +75,7 @@ pub data Order : Type 0 where
   write : ℕ → Order
   start : List ℕ → Order
   factory : Order
+  question : List ℕ → Order
   unclear : Order
 
 abbrev pub lineOrder : Option (List ℕ) → Option ℕ → Order
@@ -90,11 +91,17 @@ abbrev pub startOrder : Option (List ℕ) → Order
 startOrder none = unclear
 startOrder (some image) = start image
 
+abbrev pub useOrder : Option (List ℕ) → Order
+useOrder none = unclear
+useOrder (some name) = question name
+
 unfoldable pub oneField : List ℕ → Order
 oneField w = cond (same w (ascii "R")) restart (cond (same w (ascii "N")) factory unclear)
 
 unfoldable pub twoFields : List ℕ → List ℕ → Order
-twoFields w v = cond (same w (ascii "W")) (writeOrder (lengthOf v)) (cond (same w (ascii "I")) (startOrder (bytesOf v)) unclear)
+twoFields w v =
+    cond (same w (ascii "W")) (writeOrder (lengthOf v))
+    (cond (same w (ascii "I")) (startOrder (bytesOf v)) (cond (same w (ascii "U")) (useOrder (bytesOf v)) unclear))
 
 unfoldable pub threeFields : List ℕ → List ℕ → List ℕ → Order
 threeFields w h n = cond (same w (ascii "L")) (lineOrder (bytesOf h) (lengthOf n)) unclear
@@ -125,6 +132,7 @@ orderOf Restart b = restart
 orderOf (Write n) b = write n
 orderOf (Image k) b = start (take k b)
 orderOf Factory b = factory
+orderOf (Use k) b = question (take k b)
 orderOf Malformed b = unclear
 
 -- bytes, or none: a field was read into a lent buffer
@@ -140,7 +148,7 @@ pub record Spelled (h before : List ℕ) (r : Decoded) (after : List ℕ) : Type
 unfoldable pub hexField : List (List ℕ) → List ℕ
 hexField [] = []
 hexField (w ∷ []) = []
-hexField (w ∷ v ∷ []) = cond (same w (ascii "I")) v []
+hexField (w ∷ v ∷ []) = cond (same w (ascii "I") || same w (ascii "U")) v []
 hexField (w ∷ h ∷ n ∷ []) = cond (same w (ascii "L")) h []
 hexField (w ∷ h ∷ n ∷ z ∷ zs) = []
 
@@ -151,6 +159,7 @@ Bounded Restart b = Unit {0}
 Bounded (Write n) b = n ≤ longestLent
 Bounded (Image k) b = k ≤ length b
 Bounded Factory b = Unit {0}
+Bounded (Use k) b = k ≤ length b
 Bounded Malformed b = Unit {0}
 
 -- an order was understood, and the field h decoded into a lent buffer

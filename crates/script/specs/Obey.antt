@@ -4,24 +4,29 @@ use mathlib.Core.Path.{_≡_}
 use mathlib.Core.List.{List, []}
 use mathlib.Core.Option.{Option, none, some}
 use lib.ListN.{length, take, replicate}
-use Rattle.model.specs.Machine.{startFactory, startImage, began}
-use Rattle.model.specs.Stored.{View, viewOf, Answered, Restarted, ofBegun, lineAnswer, imageAnswer, restartAnswer}
+use Rattle.model.specs.Machine.{Usage, startFactory, startImage, began}
+use Rattle.model.specs.Stored.{View, viewOf, Answered, Restarted, ofBegun, lineAnswer, imageAnswer, restartAnswer, useAnswer}
 use Rattle.print.specs.Over.{Wrote}
 use Rattle.script.specs.declared.obey.Obeyed.{Obeyed}
-use Rattle.script.specs.Directive.{Order, line, restart, write, start, factory, unclear, order}
-use Rattle.script.specs.Answer.{said, complaint}
+use Rattle.script.specs.Hex.{hexed}
+use Rattle.script.specs.Directive.{Order, line, restart, write, start, factory, question, unclear, order}
+use Rattle.script.specs.Answer.{said, usageText, complaint}
 
--- what a call gives: the next state, its number, and what it wrote
+-- what a call gives: the next state, its number, and what is shown of it
 pub record Done : Type 0 where
   pub state : View
   pub number : ℕ
   pub text : List ℕ
 
 abbrev pub lent : Answered → Done
-lent a = record { state = a .state; number = a .number; text = take (a .count) (a .buffer) }
+lent a = record { state = a .state; number = a .number; text = hexed (take (a .count) (a .buffer)) }
 
 abbrev pub alone : Restarted → Done
 alone r = record { state = r .state; number = r .number; text = [] }
+
+-- [02 §2] the question of use leaves the state as it is
+abbrev pub asking : View → Usage → Done
+asking v a = record { state = v; number = a .number; text = usageText a }
 
 -- a buffer of so many bytes. (What it holds does not show: lines/proofs/Lent.antt)
 abbrev pub blank : ℕ → List ℕ
@@ -34,6 +39,7 @@ done v restart = some (alone (restartAnswer v))
 done v (write n) = some (lent (imageAnswer v (blank n)))
 done v (start image) = some (alone (ofBegun (startImage image)))
 done v factory = some (alone (ofBegun (began startFactory 0)))
+done v (question name) = some (asking v (useAnswer v name))
 done v unclear = none
 
 -- what is no directive changes nothing

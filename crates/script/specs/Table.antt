@@ -1,9 +1,15 @@
--- The directives of the shared vectors by example: each form in both cases of its digits, with few and many spaces, and near misses of each.
+-- The directives of the shared vectors by example: each form in both cases of its digits, with few and many spaces, and near misses of each; and what is answered.
 use Prim.Native.Nat.{ℕ}
 use mathlib.Core.Path.{_≡_}
+use mathlib.Core.Bool.{Bool, true, false}
 use mathlib.Core.List.{List, [], _∷_}
+use mathlib.Core.Option.{Option, none, some}
 use Rattle.model.specs.Ascii.{ascii}
-use Rattle.script.specs.Directive.{Order, line, restart, write, start, factory, unclear, order}
+use Rattle.model.specs.Machine.{began, startFactory}
+use Rattle.model.specs.Stored.{holds, ofBegun}
+use Rattle.script.specs.Hex.{hexed}
+use Rattle.script.specs.Directive.{Order, line, restart, write, start, factory, question, unclear, order}
+use Rattle.script.specs.Obey.{Done, alone, asking, answer}
 
 -- a line of a script, and what it orders
 pub record Row : Type 0 where
@@ -19,13 +25,15 @@ rows =
     ∷ record { text = ascii "I 0100"; orders = start (1 ∷ 0 ∷ []) }
     ∷ record { text = ascii "I -"; orders = start [] }
     ∷ record { text = ascii "N"; orders = factory }
+    ∷ record { text = ascii "U 4b"; orders = question (75 ∷ []) }
+    ∷ record { text = ascii "U -"; orders = question [] }
     ∷ []
 
 -- none of these is a directive
 abbrev pub others : List (List ℕ)
 others =
     [] ∷ ascii " " ∷ ascii "r" ∷ ascii "LL" ∷ ascii "R R" ∷ ascii "N 1" ∷ ascii "L 4b" ∷ ascii "L 4b 4096 1" ∷ ascii "L 4 4096" ∷ ascii "L 4g 4096"
-    ∷ ascii "L 4b 65537" ∷ ascii "W -1" ∷ ascii "W" ∷ ascii "I" ∷ ascii "I 0" ∷ ascii "I --" ∷ ascii "R\t" ∷ []
+    ∷ ascii "L 4b 65537" ∷ ascii "W -1" ∷ ascii "W" ∷ ascii "I" ∷ ascii "I 0" ∷ ascii "I --" ∷ ascii "U" ∷ ascii "u 4b" ∷ ascii "U 4" ∷ ascii "U 4b 4b" ∷ ascii "R\t" ∷ []
 
 -- every row as it says
 abbrev pub AsSaid : List Row → Type 0
@@ -40,3 +48,17 @@ Unclear (t ∷ ts) = (order t ≡ unclear) × Unclear ts
 pub record Directives : Type 0 where
   pub as-said : AsSaid rows
   pub no-directive : Unclear others
+
+-- ---- answers: a call that was lent a buffer, one that was not, the question of use, and no directive
+
+-- what the question of use told
+abbrev pub answered : ℕ → Bool → ℕ → Option Done
+answered n b k = some (asking (holds startFactory) (record { number = n; used = b; looked = k }))
+
+pub record Said : Type 0 where
+  pub shown : answer 7 (some (record { state = holds startFactory; number = 0; text = hexed (1 ∷ 171 ∷ []) })) ≡ ascii "0 01ab\n"
+  pub refused : answer 7 (some (alone (ofBegun (began startFactory 14)))) ≡ ascii "14 \n"
+  pub used : answer 7 (answered 0 true 20) ≡ ascii "0 1 20\n"
+  pub unused : answer 7 (answered 0 false 3) ≡ ascii "0 0 3\n"
+  pub untold : answer 7 (answered 1 false 0) ≡ ascii "1 \n"
+  pub malformed : answer 7 none ≡ ascii "? 7\n"

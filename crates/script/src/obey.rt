@@ -1,6 +1,7 @@
 // One line of a script, carried out and answered.
 use crate::answer::put_complaint;
 use crate::answer::put_said;
+use crate::answer::put_told;
 use crate::parse::Directive;
 use crate::parse::parse;
 use engine::answer::Stepped;
@@ -9,13 +10,13 @@ use machine::Begun;
 use model::State;
 ghost use Prim.Native.Nat.{_+_, _*_, _≤_};
 ghost use lib.ListN.{length};
-ghost use Rattle.model.specs.Stored.{viewOf, lineAnswer, imageAnswer};
+ghost use Rattle.model.specs.Stored.{viewOf, lineAnswer, imageAnswer, useAnswer};
 ghost use Rattle.engine.specs.Answers.{answeredOf};
 ghost use Rattle.machine.specs.Calls.{begunOf};
 ghost use Rattle.script.specs.Directive.{longestLine, longestLent};
 ghost use Rattle.script.specs.Answer.{beside, longestAnswer};
 ghost use Rattle.script.specs.Obey as Obey;
-ghost use Rattle.script.specs.Obey.{alone, blank, Answers, Obeys};
+ghost use Rattle.script.specs.Obey.{alone, asking, blank, Answers, Obeys};
 
 // The next state, and where the answer ends.
 pub struct Obeyed {
@@ -64,7 +65,16 @@ fn obey_write(s: State, lent: &mut [u8], out: &mut [u8], at: usize) -> Obeyed
     say(r, lent, out, at)
 }
 
-// The bytes of the line or image go through the first lent buffer, the reply through the second.
+fn obey_use(s: State, name: &[u8], out: &mut [u8], at: usize) -> Obeyed
+    requires { ⌜ at + longestAnswer ≤ length (now out) ⌝ }
+    ensures { λ o. ⌜ Answers (asking (viewOf s) (useAnswer (viewOf s) (now (name .entry)))) (now (out .entry)) at (now (out .exit)) o ⌝ }
+{
+    let r = machine::in_use(s, name);
+    let end = put_told(out, at, r);
+    Obeyed { state: s, end }
+}
+
+// The bytes of the line, image or name go through the first lent buffer, the reply through the second.
 pub fn obey(
     s: State,
     text: &[u8],
@@ -99,6 +109,7 @@ pub fn obey(
                 at,
             )
         }
+        Directive::Use(count) => obey_use(s, &bytes[..count], out, at),
         Directive::Malformed => {
             let end = put_complaint(out, at, line);
             Obeyed { state: s, end }

@@ -23,13 +23,14 @@ pub enum Length {
     Wrong,
 }
 
-// The first count bytes of the lent buffer are the command line or the image.
+// The first count bytes of the lent buffer are the command line, the image or the name.
 pub enum Directive {
     Line { count: usize, length: usize },
     Restart,
     Write(usize),
     Image(usize),
     Factory,
+    Use(usize),
     Malformed,
 }
 
@@ -94,14 +95,19 @@ fn two_fields(w: &[u8], v: &[u8], bytes: &mut [u8]) -> Directive
             Length::Wrong => Directive::Malformed,
         };
     }
-    if !is_letter(w, b'I') {
+    let image = is_letter(w, b'I');
+    let name = is_letter(w, b'U');
+    if !(image | name) {
         return Directive::Malformed;
     }
-    let image = read_bytes(v, bytes);
-    if !image.ok {
+    let field = read_bytes(v, bytes);
+    if !field.ok {
         return Directive::Malformed;
     }
-    Directive::Image(image.count)
+    if image {
+        return Directive::Image(field.count);
+    }
+    Directive::Use(field.count)
 }
 
 fn three_fields(w: &[u8], h: &[u8], n: &[u8], bytes: &mut [u8]) -> Directive

@@ -16,7 +16,7 @@ use Rattle.model.proofs.Basics.{all-at, all-from, length-table, table-a
 
 -- ---- lists of allowed places, for counting
 
-data In (x : ℕ) : List ℕ → Type 0 where
+pub data In (x : ℕ) : List ℕ → Type 0 where
   here : {l : List ℕ} → In x (x ∷ l)
   there : {y : ℕ} {l : List ℕ} → In x l → In x (y ∷ l)
 
@@ -37,16 +37,16 @@ drop-in-other here (there j) n = j
 drop-in-other (there i) here n = here
 drop-in-other (there i) (there j) n = there (drop-in-other i j n)
 
-up-to : ℕ → List ℕ
+pub up-to : ℕ → List ℕ
 up-to zero = []
 up-to (suc n) = suc n ∷ up-to n
 
-up-to-length : (n : ℕ) → length (up-to n) ≡ n
+pub up-to-length : (n : ℕ) → length (up-to n) ≡ n
 unfolding up-to
 up-to-length zero = refl
 up-to-length (suc n) = ap suc (up-to-length n)
 
-up-to-in : (n x : ℕ) → 0 < x → x ≤ n → In x (up-to n)
+pub up-to-in : (n x : ℕ) → 0 < x → x ≤ n → In x (up-to n)
 unfolding up-to
 up-to-in zero x h k = absurd (omega arith)
 up-to-in (suc n) x h k = go (ℕ-discrete x (suc n)) (λ k′. up-to-in n x h k′)
@@ -116,7 +116,7 @@ module _ (l : List System) where
   no-return f i q = back f f i q (omega arith)
 
   -- where the places of a chain that ends are among m places, it ends within m links
-  within : (m : ℕ) (allowed : List ℕ) → length allowed ≤ m → (f q : ℕ) → hop l f q ≡ 0 → ((i : ℕ) → (hop l i q ≡ 0 → ⊥) → In (hop l i q) allowed) →
+  pub within : (m : ℕ) (allowed : List ℕ) → length allowed ≤ m → (f q : ℕ) → hop l f q ≡ 0 → ((i : ℕ) → (hop l i q ≡ 0 → ⊥) → In (hop l i q) allowed) →
       hop l m q ≡ 0
   unfolding hop predOf
   within zero [] h f q e on = go (ℕ-discrete q 0)

@@ -9,24 +9,23 @@ use native.Mathlib.Omega.{arith}
 use native.Mathlib.Decide.{ℕ-discrete}
 use borrow.Author.Tests.{eq-eqb, ne-eqb}
 use lib.Dec.{eqb}
-use lib.ListN.{length, getD, length-map}
+use lib.ListN.{length, getD, length-map, List·getD-map}
 use Rattle.model.specs.Types.{Group}
 use Rattle.model.specs.Lists.{any, kept, same, there?}
 use Rattle.model.specs.Kinds.{ofKind}
 use Rattle.model.specs.Memory.{System, Memory, Ref, userRef, systemAt, nameOf, placeNamed, isUser, find, refOr}
-use Rattle.model.specs.Chain.{steps, chain}
+use Rattle.model.specs.Chain.{hop, steps, chain, onChain}
 use Rattle.model.specs.Use.{inGroup, nameInUse}
 use Rattle.model.specs.Effects.{mended, removedAt}
 use Rattle.model.specs.Removed.{chainNames, StillThere, RemovalMends}
-use Rattle.model.proofs.Basics.{either, or-false, true-false, same→≡, ≡→same}
+use Rattle.model.proofs.Basics.{either, or-false, any-where, true-false, same→≡, ≡→same}
 use Rattle.model.proofs.Chains.Hops.{InRange, hop-in-range}
-use Rattle.model.proofs.Chains.Steps.{chain-length, chain-at}
+use Rattle.model.proofs.Chains.Steps.{chain-length, chain-at, hop→on-chain}
 use Rattle.model.proofs.Edits.Removal.{old-mended, mended-zero, mended-fixed, mended-in-range, without, without-length, removed-at, removed-alike, not-its-own}
 use Rattle.model.proofs.Edits.RemovedChain.{removed-names, removed-steps-on}
 use Rattle.model.proofs.Memories.Fine.{Stands, Fine, preds-within, fine-of}
 use Rattle.model.proofs.Memories.Named.{user-place, place-stands, place-name}
 use Rattle.model.proofs.Memories.Found.{IsSystem, fixed, user, name-of-user, is-found, found-is, name-place}
-use Rattle.model.proofs.Histories.Under.{named-on-chain}
 use Rattle.model.proofs.Edits.Removing.{remove-fine}
 
 -- ---- lists of names
@@ -41,6 +40,23 @@ kept-all a (x ∷ c) e =
   where
     other : same a x ≡ false → same x a ≡ false
     other f = ⊎-elim (λ t. true-false (sym (≡→same (sym (same→≡ x a t))) ∙ f)) (λ t. t) (either (same x a))
+
+-- a name among those of a chain is on the chain
+named-on-chain : (m : Memory) → Fine m → (n : List ℕ) → isUser m n ≡ true → (g : Group) (q : ℕ) → q ≤ length (m .systems) →
+    any (same n) (map (λ x. nameOf (m .systems) (inGroup g x)) (chain (m .systems) q)) ≡ true → onChain (m .systems) (placeNamed (m .systems) n) q ≡ true
+named-on-chain m fine n found g q h s =
+    let w = any-where (same n) (map name (chain l q)) (name 0) s in
+    let i = w .0 in
+    let lt : i < steps l q = omega (arith, chain-length l q, length-map (chain l q) name, w .1) in
+    let at : getD (map name (chain l q)) i (name 0) ≡ name (hop l (suc i) q) = List·getD-map name (chain l q) i 0 ∙ ap name (chain-at l q i lt) in
+    let there = hop-in-range l (preds-within (fine .systems)) (suc i) q h in
+    hop→on-chain l (placeNamed l n) q i lt (name-place m fine n found g (hop l (suc i) q) there (sym at ∙ sym (same→≡ n _ (w .2))))
+  where
+    l : List System
+    l = m .systems
+
+    name : ℕ → List ℕ
+    name x = nameOf l (inGroup g x)
 
 module _ (m : Memory) (fine : Fine m) (a : List ℕ) (found : isUser m a ≡ true) (free : nameInUse m a ≡ false) where
   abbrev l : List System

@@ -24,20 +24,13 @@ use Rattle.model.proofs.Basics.{true-false, ≡→same, table-cong, map
 use Rattle.model.proofs.Chains.Hops.{hop-zero, ring-free}
 use Rattle.model.proofs.Chains.Steps.{Ends, chain-length, steps-zero, steps-end, steps-within, steps-pred}
 use Rattle.model.proofs.Memories.Fine.{Placed, PartPlaced, Fine, state-of, fine-of}
-use Rattle.model.proofs.Memories.Found.{IsSystem, fixed, user, is-found, found-is}
+use Rattle.model.proofs.Memories.Found.{IsSystem, fixed, user, placed-system, is-found, found-is}
 use Rattle.model.proofs.Ladder.Queries.{query-replies}
 
 -- ---- KEN?
 
 -- a place that is 0 or holds a user system of type k
 module _ (l : List System) (k : Kind) where
-  placed-system : (q : ℕ) → Placed l k q → IsSystem l (inGroup (ofKind k .group) q)
-  placed-system zero h = fixed (ofKind k .group)
-  placed-system (suc i) h =
-      let p = h (omega arith) in
-      let u : IsSystem l (userRef l (suc i)) = user (suc i) (omega (arith, p .0)) in
-      rw (p .1) at u
-
   user-type : (q : ℕ) → 0 < q → Placed l k q → typeOf l (inGroup (ofKind k .group) q) ≡ ofKind k .shown
   unfolding typeOf
   user-type zero h p = absurd (omega arith)

@@ -65,13 +65,13 @@ calls-held st h (stored.none s) = h
 calls-held st h (stored.then-line s s′ l b r cs p rest) = calls-held (stepped st l b .state) (line-state s st h l b r p) rest
 calls-held st h (stored.then-restart s s′ r cs p rest) = calls-held (restart st .state) (restart-state s st h r p) rest
 
-lines-held : {s s′ : StoredState} {cs : List Line} {ns : List ℕ} (st : State) → viewOf s ≡ holds st → Lines s cs ns s′ → viewOf s′ ≡ holds (afterLines st cs)
+pub lines-held : {s s′ : StoredState} {cs : List Line} {ns : List ℕ} (st : State) → viewOf s ≡ holds st → Lines s cs ns s′ → viewOf s′ ≡ holds (afterLines st cs)
 unfolding afterLines
 lines-held st h (stored.none s) = h
 lines-held st h (stored.then-line s s′ c r cs ns p rest) = lines-held (stepped st (c .bytes) (c .buffer) .state) (line-state s st h (c .bytes) (c .buffer) r p) rest
 
 -- what the lines returned is what the machine judges
-lines-steady : {s s′ : StoredState} {cs : List Line} {ns : List ℕ} (st : State) → viewOf s ≡ holds st → Lines s cs ns s′ → steadyBy cs ns ≡ true → steady st cs ≡ true
+pub lines-steady : {s s′ : StoredState} {cs : List Line} {ns : List ℕ} (st : State) → viewOf s ≡ holds st → Lines s cs ns s′ → steadyBy cs ns ≡ true → steady st cs ≡ true
 unfolding noneTaken steadyBy
 lines-steady st h (stored.none s) e = refl
 lines-steady st h (stored.then-line s s′ c r cs ns p rest) e =

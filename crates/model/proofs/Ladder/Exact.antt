@@ -10,7 +10,8 @@ use Rattle.model.specs.Memory.{Memory, State, started}
 use Rattle.model.specs.WellFormed.{wellFormed}
 use Rattle.model.specs.Refusals.{refusal, ladder}
 use Rattle.model.specs.Image.{accepted}
-use Rattle.model.specs.Machine.{Outcome, began, stepped, startFactory, startImage}
+use Rattle.model.specs.Use.{useTest}
+use Rattle.model.specs.Machine.{Outcome, began, stepped, startFactory, startImage, tellsUse, refusesUse, askUse}
 use Rattle.model.specs.Claims.{applies, FirstToApply, NumberExact, OtherNumbersExact}
 use Rattle.model.proofs.Basics.{either}
 use Rattle.model.proofs.Ladder.First.{once, clear, ladder-ordered, first-applies, first-only, first-zero, of-line-low}
@@ -60,6 +61,16 @@ pub start-some : (bytes : List ℕ) (m : Memory) → accepted bytes ≡ some m �
 unfolding startImage
 start-some bytes m e = rw (e, startImage)
 
+-- ---- the question of use
+
+pub use-ill : (st : State) (n : List ℕ) → wellFormed st ≡ false → askUse st n ≡ refusesUse
+unfolding askUse
+use-ill st n w = rw (w, askUse)
+
+pub use-fine : (st : State) (n : List ℕ) → wellFormed st ≡ true → askUse st n ≡ tellsUse (useTest (st .volatile) n)
+unfolding askUse
+use-fine st n w = rw (w, askUse)
+
 pub other-numbers-exact : OtherNumbersExact
 other-numbers-exact =
     record {
@@ -70,4 +81,6 @@ other-numbers-exact =
       image-taken = image-fine;
       start-refused = start-none;
       start-taken = start-some;
+      use-one = use-ill;
+      use-taken = use-fine;
     }

@@ -3,13 +3,14 @@ use Prim.Native.Nat.{ℕ, zero, suc, _≤_, _<_}
 use mathlib.Core.Path.{_≡_, refl, sym, ap, _∙_}
 use mathlib.Core.List.{List, [], _∷_}
 use mathlib.Core.Bool.{Bool, true, false, cond, not, _&&_}
-use mathlib.Core.Option.{some}
+use mathlib.Core.Option.{none, some}
 use mathlib.Core.Logic.{⊎-elim}
 use native.Mathlib.Omega.{arith}
 use native.Mathlib.Decide.{decLt}
 use borrow.Author.Tests.{not-true, lt-ltb}
 use lib.ListN.{length}
-use Rattle.model.specs.Types.{Group, Operating, Orientational, Levelling}
+use Rattle.model.specs.Types.{Kind, Group, Operating, Orientational, Levelling}
+use Rattle.model.specs.Ascii.{ascii}
 use Rattle.model.specs.Lists.{any, same, oneOf}
 use Rattle.model.specs.Kinds.{ofKind, ofGroup, groups}
 use Rattle.model.specs.Memory.{System, Memory, Ref, systemAt, fixedRef, userRef, nameOf, placeNamed, isUser, fixedNamed, find}
@@ -17,13 +18,21 @@ use Rattle.model.specs.Use.{inGroup}
 use Rattle.model.specs.WellFormed.{offsetsFine, turnsFine}
 use Rattle.model.specs.Words.{legalName, reserved}
 use Rattle.model.proofs.Basics.{and-split, either, true-false, same→≡}
-use Rattle.model.proofs.Memories.Fine.{Stands, Fine}
+use Rattle.model.proofs.Memories.Fine.{Stands, Placed, Fine}
 use Rattle.model.proofs.Memories.Named.{place-stands, place-name, place-missing, user-place}
 
 -- a system of the list: a fixed one, or the user system at a place
 pub data IsSystem (l : List System) : Ref → Type 0 where
   fixed : (g : Group) → IsSystem l (fixedRef g)
   user : (k : ℕ) → Stands l k → IsSystem l (userRef l k)
+
+-- a place that is 0 or holds a user system of type k
+pub placed-system : (l : List System) (k : Kind) (q : ℕ) → Placed l k q → IsSystem l (inGroup (ofKind k .group) q)
+placed-system l k zero h = fixed (ofKind k .group)
+placed-system l k (suc i) h =
+    let p = h (omega arith) in
+    let u : IsSystem l (userRef l (suc i)) = user (suc i) (omega (arith, p .0)) in
+    rw (p .1) at u
 
 pub name-of-user : (l : List System) (g : Group) (k : ℕ) → 0 < k → nameOf l (inGroup g k) ≡ systemAt l k .name
 unfolding nameOf
@@ -46,7 +55,7 @@ module _ (m : Memory) (fine : Fine m) where
       let c = and-split (legalName (s .name) && not (reserved (s .name))) (offsetsFine (s .offset)) (b .0) in
       not-true (reserved (s .name)) (and-split (legalName (s .name)) (not (reserved (s .name))) (c .0) .1)
 
-  user-name-free : (n : List ℕ) → isUser m n ≡ true → reserved n ≡ false
+  pub user-name-free : (n : List ℕ) → isUser m n ≡ true → reserved n ≡ false
   user-name-free n u =
       let h = user-place m n u in
       rw (place-name (m .systems) n h) at (user-not-reserved (placeNamed (m .systems) n) (place-stands (m .systems) n h))
@@ -73,6 +82,11 @@ module _ (m : Memory) (fine : Fine m) where
   fixed-found Operating = rw (reserved-no-user (ofGroup Operating .name) refl)
   fixed-found Orientational = rw (reserved-no-user (ofGroup Orientational .name) refl)
   fixed-found Levelling = rw (reserved-no-user (ofGroup Levelling .name) refl)
+
+  -- HEXAPOD is reserved, and no fixed system's name
+  pub hexapod-none : find m (ascii "HEXAPOD") ≡ none
+  unfolding find fixedNamed same reserved oneOf any
+  hexapod-none = rw (reserved-no-user (ascii "HEXAPOD") refl)
 
   user-found : (k : ℕ) → Stands (m .systems) k → find m (systemAt (m .systems) k .name) ≡ some (userRef (m .systems) k)
   unfolding find isUser

@@ -79,7 +79,7 @@ module _ (m : Memory) (n : List ℕ) where
   unfolding isUser
   user-none u = let h = ltb-false 0 (placeNamed (m .systems) n) u in omega arith
 
-  find-user : isUser m n ≡ true → find m n ≡ some (userRef (m .systems) (placeNamed (m .systems) n))
+  pub find-user : isUser m n ≡ true → find m n ≡ some (userRef (m .systems) (placeNamed (m .systems) n))
   unfolding find
   find-user u = rw u
 

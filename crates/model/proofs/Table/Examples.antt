@@ -1,7 +1,7 @@
 -- The examples hold: each is computed, from lines of bytes to replies, images and numbers.
 use mathlib.Core.Path.{refl}
-use Rattle.model.specs.Stored.{memoryShaped, shaped, viewOf, lineAnswer, imageAnswer, restartAnswer}
-use Rattle.model.specs.Sessions.{hexSpelled, hex, sent, comes, otherwise}
+use Rattle.model.specs.Stored.{memoryShaped, shaped, viewOf, lineAnswer, imageAnswer, restartAnswer, useAnswer}
+use Rattle.model.specs.Sessions.{hexSpelled, hex, sent, run, comes, otherwise}
 use Rattle.model.specs.Examples.{Examples}
 use Rattle.model.specs.Examples.Memories.{OfMemories, OfPoses}
 use Rattle.model.specs.Examples.Lines.{OfLines}
@@ -10,6 +10,7 @@ use Rattle.model.specs.Examples.Numbers.{OfNumbers}
 use Rattle.model.specs.Examples.Images.{OfImages}
 use Rattle.model.specs.Examples.Histories.{OfHistories}
 use Rattle.model.specs.Examples.Storage.{OfStorage}
+use Rattle.model.specs.Examples.Use.{OfUse}
 use Rattle.model.specs.Examples.Bench.{OfBench}
 use Rattle.model.specs.Demand.{changesEnabled, asksToEnable, noneTaken}
 use Rattle.model.specs.Histories.{steadyBy}
@@ -20,7 +21,7 @@ use Rattle.model.specs.Bench.{storedActs, acted, ksbench, gathered, byte
 use Rattle.model.proofs.Open.{definitions-open}
 
 unfoldable sessions-open : Unit {0}
-unfolding hexSpelled hex sent comes otherwise memoryShaped shaped viewOf lineAnswer imageAnswer restartAnswer changesEnabled asksToEnable noneTaken steadyBy definitions-open
+unfolding hexSpelled hex sent run comes otherwise memoryShaped shaped viewOf lineAnswer imageAnswer restartAnswer useAnswer changesEnabled asksToEnable noneTaken steadyBy definitions-open
 sessions-open = tt
 
 of-memories : OfMemories
@@ -67,6 +68,7 @@ of-numbers = record {
   one-permanent = refl;
   one-restart = refl;
   one-image = refl;
+  one-use = refl;
   last-errors = refl;
   two = refl;
   two-image = refl;
@@ -105,7 +107,11 @@ of-histories =
 
 of-storage : OfStorage
 unfolding sessions-open
-of-storage = record { parts = refl; free = refl; free-zero = refl; answered-as = refl; count-beyond = refl; length-beyond = refl; no-image = refl; no-restart = refl }
+of-storage = record { parts = refl; free = refl; free-zero = refl; answered-as = refl; count-beyond = refl; length-beyond = refl; no-image = refl; no-restart = refl; no-answer = refl }
+
+of-use : OfUse
+unfolding sessions-open
+of-use = record { factory-state = refl; looks = refl; stops = refl; substitute = refl; volatile = refl }
 
 of-bench : OfBench
 unfolding sessions-open asksToSave saves reason storedActs acted ksbench gathered byteOf poweredOn fileAfter
@@ -134,4 +140,4 @@ of-bench =
 
 pub examples : Examples
 examples =
-    record { memories = of-memories; poses = of-poses; lines = of-lines; commands = of-commands; lists = of-lists; numbers = of-numbers; images = of-images; histories = of-histories; storage = of-storage; bench = of-bench }
+    record { memories = of-memories; poses = of-poses; lines = of-lines; commands = of-commands; lists = of-lists; numbers = of-numbers; images = of-images; histories = of-histories; storage = of-storage; in-use = of-use; bench = of-bench }

@@ -4,7 +4,7 @@ use Rattle.model.specs.Base.{ℕ, [], _∷_, _++_, map}
 use Rattle.model.specs.Types.{Single}
 use Rattle.model.specs.Ascii.{ascii}
 use Rattle.model.specs.Memory.{Memory, State, factory}
-use Rattle.model.specs.Machine.{refused, began, stepped, restart, writeImage, startFactory}
+use Rattle.model.specs.Machine.{refused, began, stepped, restart, writeImage, startFactory, refusesUse, askUse}
 use Rattle.model.specs.Sessions.{answer, replies, taken, number, lent, sent, sixteen, _⇒_, Session}
 
 -- a memory with an enabled KLD that is not there
@@ -23,6 +23,7 @@ pub record OfNumbers : Type 0 where
   pub one-permanent : answer (sent (stateWith factory broken 0 0) (ascii "KEN?")) ≡ number 1
   pub one-restart : restart (stateWith broken factory 0 3) ≡ began (stateWith broken factory 0 3) 1
   pub one-image : writeImage (stateWith broken factory 0 3) [] ≡ refused (stateWith broken factory 0 3) 1 []
+  pub one-use : askUse (stateWith factory broken 0 0) (ascii "ZERO") ≡ refusesUse
   pub last-errors : answer (sent (stateWith factory factory 1 13) (ascii "ERR?")) ≡ replies "13\n"
   -- [Error 2] 4,095 bytes are too few, for a line and for an image; it comes before 3
   pub two : stepped startFactory (ascii "KEN?") (lent 4095) ≡ refused (stateWith factory factory 0 2) 2 (lent 4095)

@@ -1,12 +1,12 @@
 -- Document 01, "Empty programs": stored values, by examples.
 use mathlib.Core.Path.{_≡_}
-use Rattle.model.specs.Base.{ℕ, [], _∷_, pos, negsuc, replicate}
+use Rattle.model.specs.Base.{ℕ, [], _∷_, pos, negsuc, replicate, false}
 use Rattle.model.specs.Types.{Ksd, Kst, Enabled, Pair, Name, StoredSystem, StoredMemory, StoredState}
 use Rattle.model.specs.Ascii.{ascii}
 use Rattle.model.specs.Pose.{origin}
 use Rattle.model.specs.Memory.{System, Memory, factory, started, noTurn}
 use Rattle.model.specs.Machine.{answered}
-use Rattle.model.specs.Stored.{shapeless, holds, viewOf, ofOutcome, lineAnswer, imageAnswer, restartAnswer}
+use Rattle.model.specs.Stored.{shapeless, holds, viewOf, ofOutcome, lineAnswer, imageAnswer, restartAnswer, useAnswer}
 use Rattle.model.specs.Sessions.{lent}
 
 -- A as it is stored, with this byte behind its name
@@ -61,7 +61,7 @@ pub record OfStorage : Type 0 where
   pub free-zero : viewOf (storedState (storedMemory (storedName 0) 1) fit) ≡ holds (started onlyA)
   pub answered-as : lineAnswer (holds (started onlyA)) (ascii "KLN?") (lent 4096)
       ≡ ofOutcome (answered (started onlyA) (ascii "ZERO=ZERO \nPI_BASE=HEXAPOD \nPI_LEVELLING=HEXAPOD \nA=ZERO\n") (lent 4096))
-  -- [Error 1] a count or a length beyond its array, in either memory: the state and the buffer come back as they were, from every call
+  -- [Error 1] a count or a length beyond its array, in either memory: the state and the buffer come back as they were, from every call; the question of use has no answer
   pub count-beyond : lineAnswer (viewOf (storedState miscounted fit)) (ascii "KLN?") (lent 4096)
       ≡ record { state = shapeless (storedState miscounted fit); number = 1; count = 0; buffer = lent 4096 }
   pub length-beyond : lineAnswer (viewOf (storedState fit overnamed)) (ascii "KLN?") (lent 4096)
@@ -69,3 +69,4 @@ pub record OfStorage : Type 0 where
   pub no-image : imageAnswer (viewOf (storedState fit miscounted)) (lent 4096)
       ≡ record { state = shapeless (storedState fit miscounted); number = 1; count = 0; buffer = lent 4096 }
   pub no-restart : restartAnswer (viewOf (storedState overnamed fit)) ≡ record { state = shapeless (storedState overnamed fit); number = 1 }
+  pub no-answer : useAnswer (viewOf (storedState miscounted fit)) (ascii "ZERO") ≡ record { number = 1; used = false; looked = 0 }

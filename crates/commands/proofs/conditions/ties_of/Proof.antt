@@ -13,6 +13,9 @@ array-share-prefix-preds c = let h : length (c .before .args .links .preds) ≡ 
 slice-aggregate-flat : tie.Need-slice-aggregate-flat
 slice-aggregate-flat c = let h : length (c .before .before .args .links .preds) ≡ maxSystems = search needs in simp length-take (omega (arith, c .before .before .pre))
 
+used-requires : tie.Need-used-requires
+used-requires c κs = simp length-take (omega (arith, c .before .before .pre))
+
 returns : tie.Need-returns
 returns c =
     let a = c .before .before .before .before .args in
@@ -24,6 +27,6 @@ ties-of-spec =
     (tie.spec
     array-share-prefix-preds
     slice-aggregate-flat
-    (λ c κs. search needs)
+    used-requires
     (λ c κs. search needs)
     returns)

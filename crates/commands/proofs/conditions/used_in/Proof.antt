@@ -13,6 +13,9 @@ array-share-prefix-preds c = let h : length (c .before .args .links .preds) ≡ 
 slice-aggregate-used : tie.Need-slice-aggregate-used
 slice-aggregate-used c = let h : length (c .before .before .args .links .preds) ≡ maxSystems = search needs in simp length-take (omega (arith, c .before .before .pre))
 
+used-requires : tie.Need-used-requires
+used-requires c κs = simp length-take (omega (arith, c .before .before .pre))
+
 returns : tie.Need-returns
 returns c = let a = c .before .before .before .args in λ l p. c .used .ensures ∙ flat-used l _ (p .links) (a .e) (a .place)
 
@@ -22,5 +25,5 @@ used-in-spec =
     (tie.spec
     array-share-prefix-preds
     slice-aggregate-used
-    (λ c κs. search needs)
+    used-requires
     returns)

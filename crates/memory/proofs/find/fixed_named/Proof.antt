@@ -8,19 +8,19 @@ use Rattle.memory.proofs.find.fixed_named.Tie as tie
 
 returns : tie.Need-returns
 unfolding fixedNamed orNumber foundTold foundPlace
-returns c = (λ l. rw (sym (c .before .same-bytes .ensures) ∙ c .if1 .taken), refl)
+returns c = (λ l. rw (sym (c .before .same-bytes .ensures) ∙ c .if1 .taken), (refl, tt))
 
 returns-2 : tie.Need-returns-2
 unfolding fixedNamed orNumber foundTold foundPlace
-returns-2 c = (λ l. rw (sym (c .before .before .before .before .same-bytes .ensures) ∙ c .before .before .before .if1 .left, sym (c .before .same-bytes2 .ensures) ∙ c .if2 .taken), refl)
+returns-2 c = (λ l. rw (sym (c .before .before .before .before .same-bytes .ensures) ∙ c .before .before .before .if1 .left, sym (c .before .same-bytes2 .ensures) ∙ c .if2 .taken), (refl, tt))
 
 returns-3 : tie.Need-returns-3
 unfolding fixedNamed orNumber foundTold foundPlace
-returns-3 c = (λ l. rw (sym (c .before .before .before .before .before .before .before .same-bytes .ensures) ∙ c .before .before .before .before .before .before .if1 .left, sym (c .before .before .before .before .same-bytes2 .ensures) ∙ c .before .before .before .if2 .left, sym (c .before .same-bytes3 .ensures) ∙ c .if3 .taken), refl)
+returns-3 c = (λ l. rw (sym (c .before .before .before .before .before .before .before .same-bytes .ensures) ∙ c .before .before .before .before .before .before .if1 .left, sym (c .before .before .before .before .same-bytes2 .ensures) ∙ c .before .before .before .if2 .left, sym (c .before .same-bytes3 .ensures) ∙ c .if3 .taken), (refl, tt))
 
 returns-4 : tie.Need-returns-4
 unfolding fixedNamed orNumber foundTold foundPlace
-returns-4 c = (λ l. rw (sym (c .before .before .before .before .before .before .before .same-bytes .ensures) ∙ c .before .before .before .before .before .before .if1 .left, sym (c .before .before .before .before .same-bytes2 .ensures) ∙ c .before .before .before .if2 .left, sym (c .before .same-bytes3 .ensures) ∙ c .if3 .left), refl)
+returns-4 c = (λ l. rw (sym (c .before .before .before .before .before .before .before .same-bytes .ensures) ∙ c .before .before .before .before .before .before .if1 .left, sym (c .before .before .before .before .same-bytes2 .ensures) ∙ c .before .before .before .if2 .left, sym (c .before .same-bytes3 .ensures) ∙ c .if3 .left), (refl, tt))
 
 pub fixed-named-spec : {M : Type 1} → statement M
 fixed-named-spec =

@@ -6,38 +6,26 @@ use Rattle.memory.proofs.Laws.{name-fits, name-count, name-bytes}
 use Rattle.memory.proofs.names.same_name.Statement.{statement}
 use Rattle.memory.proofs.names.same_name.Tie as tie
 
-long-a : (c : tie.Start) → length (c .args .a .bytes) ≡ nameLimit
-long-a c = search needs
-
-long-b : (c : tie.Start) → length (c .args .b .bytes) ≡ nameLimit
-long-b c = search needs
+long : (c : tie.Start) → length (c .args .a .bytes) ≡ nameLimit
+long c = search needs
 
 array-share-prefix-x : tie.Need-array-share-prefix-x
-array-share-prefix-x c = name-fits (c .before .before .before .before .args .a) _ (long-a (c .before .before .before .before)) (c .before .before .before .clipped .ensures)
+array-share-prefix-x c = name-fits (c .before .before .args .a) _ (long (c .before .before)) (c .before .clipped .ensures)
 
-slice-aggregate-same-bytes : tie.Need-slice-aggregate-same-bytes
-slice-aggregate-same-bytes c = name-count _ _ (long-a (c .before .before .before .before .before)) (c .before .before .before .before .clipped .ensures)
-
-array-share-prefix-y : tie.Need-array-share-prefix-y
-array-share-prefix-y c = name-fits (c .before .before .before .before .before .args .b) _ (long-b (c .before .before .before .before .before)) (c .before .before .before .clipped2 .ensures)
-
-slice-aggregate-same-bytes-2 : tie.Need-slice-aggregate-same-bytes-2
-slice-aggregate-same-bytes-2 c = name-count _ _ (long-b (c .before .before .before .before .before .before)) (c .before .before .before .before .clipped2 .ensures)
+slice-aggregate-has-bytes : tie.Need-slice-aggregate-has-bytes
+slice-aggregate-has-bytes c = name-count _ _ (long (c .before .before .before)) (c .before .before .clipped .ensures)
 
 returns : tie.Need-returns
 returns c =
-    let s = c .before .before .before .before .before .before .before in
-    c .same-bytes .ensures ∙ rw (name-bytes (s .args .a) _ (long-a s) (c .before .before .before .before .before .before .clipped .ensures), name-bytes (s .args .b) _ (long-b s) (c .before .before .before .before .before .clipped2 .ensures))
+    let s = c .before .before .before .before in
+    c .has-bytes .ensures ∙ rw (name-bytes (s .args .a) _ (long s) (c .before .before .before .clipped .ensures))
 
 pub same-name-spec : {M : Type 1} → statement M
 same-name-spec =
     tie.close
     (tie.spec
     (λ c κs. search needs)
-    (λ c κs. search needs)
     array-share-prefix-x
-    slice-aggregate-same-bytes
-    array-share-prefix-y
-    slice-aggregate-same-bytes-2
+    slice-aggregate-has-bytes
     (λ c κs. search needs)
     returns)

@@ -22,6 +22,9 @@ write-bounded k = rw (k .length .given .1) at (k .before .before .before .before
 image-bounded : (k : tie.After-count2) → k .count2 .given .0 .0 ≤ length (k .before .before .before .before .parse .last .1 .0)
 image-bounded k = rw (k .count2 .given .1) at (k .before .before .before .before .parse .ensures .bounded)
 
+use-bounded : (k : tie.After-count3) → k .count3 .given .0 .0 ≤ length (k .before .before .before .before .parse .last .1 .0)
+use-bounded k = rw (k .count3 .given .1) at (k .before .before .before .before .parse .ensures .bounded)
+
 slice-reshare-prefix-obey-line : tie.Need-slice-reshare-prefix-obey-line
 slice-reshare-prefix-obey-line c = line-bounded (c .before) .0
 
@@ -61,6 +64,12 @@ slice-reshare-prefix-start-image c = image-bounded (c .before)
 
 slice-aggregate-start-image : tie.Need-slice-aggregate-start-image
 slice-aggregate-start-image c = sym (length-take-le _ _ (image-bounded (c .before .before)))
+
+slice-reshare-prefix-obey-use : tie.Need-slice-reshare-prefix-obey-use
+slice-reshare-prefix-obey-use c = use-bounded (c .before)
+
+slice-aggregate-obey-use : tie.Need-slice-aggregate-obey-use
+slice-aggregate-obey-use c = sym (length-take-le _ _ (use-bounded (c .before .before)))
 
 put-complaint-requires : tie.Need-put-complaint-requires
 put-complaint-requires c κs = let st = c .before .before .before .before .before .before .before .before .before .before .before in omega (arith, complaint-short (st .args .line) (st .fits .line .fits), st .pre .2)
@@ -108,7 +117,14 @@ returns-5 c =
     (answers-by (ap (λ (v : View). alone (record { state = v; number = 0 })) (c .before .before .before .before .start-factory .ensures)) (c .before .before .say-begun3 .ensures))
 
 returns-6 : tie.Need-returns-6
+unfolding done
 returns-6 c =
+    let k = c .before .before .before .before .before .before in
+    let a = k .before .before .before .before .before .before .before .before .before .before .args in
+    as-ordered (viewOf (a .s)) (a .line) (a .text .now) (rw (k .count3 .given .1) at (k .before .before .before .before .parse .ensures .order)) refl (c .before .before .obey-use .ensures)
+
+returns-7 : tie.Need-returns-7
+returns-7 c =
     let p = c .before .before in
     let st = c .before .before .before .before .before .before .before .before .before .before .before .before .before .before in
     let a = st .args in
@@ -142,6 +158,10 @@ obey-spec =
     (λ c κs. search needs)
     (λ c κs. search needs)
     (λ c. search needs)
+    slice-reshare-prefix-obey-use
+    slice-aggregate-obey-use
+    (λ c κs. search needs)
+    (λ c. search needs)
     put-complaint-requires
     (λ c. search needs)
     (λ c. search needs)
@@ -162,4 +182,7 @@ obey-spec =
     returns-5
     (λ c. search needs)
     (λ c. search needs)
-    returns-6)
+    returns-6
+    (λ c. search needs)
+    (λ c. search needs)
+    returns-7)

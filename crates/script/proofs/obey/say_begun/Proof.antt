@@ -2,6 +2,7 @@ use Prim.Native.Nat.{_<_}
 use mathlib.Core.Path.{refl}
 use mathlib.Core.List.{[]}
 use native.Mathlib.Omega.{arith}
+use Rattle.script.specs.Hex.{hexed}
 use Rattle.script.proofs.AnswerLaws.{said-short}
 use borrow.Author.Needs.{needs}
 use Rattle.script.proofs.obey.say_begun.Statement.{statement}
@@ -14,6 +15,7 @@ put-said-requires : tie.Need-put-said-requires
 put-said-requires c κs = let st = c .before .before .before in omega (arith, said-short (st .args .r .number) [] (number-byte st), st .pre)
 
 returns : tie.Need-returns
+unfolding hexed
 returns c =
     let p = c .before .before .before in
     let st = p .before .before .before .before in
