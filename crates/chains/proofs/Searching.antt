@@ -55,7 +55,7 @@ module _ (l : List System) where
       go (no e) rest = down-more (suc n) q e ∙ rw (least-later n p (ne-eqb q 0 e)) (ap (λ t. q ∷ t) rest)
 
   -- a chain has as many places at most as there are systems, and one more
-  pub down-path : (q : ℕ) → down l (suc (suc (length l))) q ≡ path l q
+  down-path : (q : ℕ) → down l (suc (suc (length l))) q ≡ path l q
   unfolding chain steps
   down-path q = down-is (suc (length l)) q
 
@@ -125,7 +125,7 @@ module _ (ps : List ℕ) where
 -- ---- the enabled chains
 
 -- what the test looks at: the operating part, then the orientational, then the levelling system, each with its chain
-pub looked-paths : (ps : List ℕ) (e : Enabled) → lookedAt (memoryBy ps e)
+looked-paths : (ps : List ℕ) (e : Enabled) → lookedAt (memoryBy ps e)
     ≡ map (inGroup Operating) (operatingPaths (linkedBy ps) (e .operating))
     ++ (map (inGroup Orientational) (path (linkedBy ps) (e .orientational)) ++ map (inGroup Levelling) (path (linkedBy ps) (e .levelling)))
 looked-paths ps e = looked-parts (memoryBy ps e) ∙ go (e .operating)

@@ -1,12 +1,12 @@
 -- Laws of the searches of specs/Lists.antt, which end at the first element that passes. Nothing here is about the bench.
-use Prim.Native.Nat.{ℕ, _+_, _≤_}
+use Prim.Native.Nat.{ℕ, zero, suc, _+_, _≤_}
 use mathlib.Core.Path.{_≡_, refl, sym, ap, _∙_}
 use mathlib.Core.List.{List, [], _∷_, _++_, map}
 use mathlib.Core.Bool.{Bool, true, false, _||_}
 use mathlib.Core.Logic.{⊎-elim}
 use native.Mathlib.Omega.{arith}
 use lib.ListN.{length}
-use Rattle.model.specs.Lists.{any, upTo, Search, search, after}
+use Rattle.model.specs.Lists.{any, table, upTo, Search, search, after}
 use Rattle.model.proofs.Basics.{either, or-left, or-right, or-false, true-false}
 
 -- so it is of every element
@@ -21,6 +21,11 @@ each-append P (x ∷ l) k g h = (g .0, each-append P l k (g .1) h)
 pub each-map : {A B : Type 0} (P : B → Type 0) (f : A → B) (l : List A) → Each (λ x. P (f x)) l → Each P (map f l)
 each-map P f [] g = tt
 each-map P f (x ∷ l) g = (g .0, each-map P f l (g .1))
+
+pub each-table : {A : Type 0} (P : A → Type 0) (n : ℕ) (f : ℕ → A) → ((i : ℕ) → P (f i)) → Each P (table n f)
+unfolding table
+each-table P zero f h = tt
+each-table P (suc n) f h = (h 0, each-table P n (λ i. f (suc i)) (λ i. h (suc i)))
 
 pub each-also : {A : Type 0} {P Q : A → Type 0} → ((x : A) → P x → Q x) → (l : List A) → Each P l → Each Q l
 each-also f [] g = tt

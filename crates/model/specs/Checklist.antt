@@ -92,9 +92,13 @@ touches save a = false
 touches restore a = false
 touches reset a = false
 
--- the name of an enabled system, or of one on its chain
+-- the name of an enabled system, and those on its chain
+abbrev pub namesDown : Held → List (List ℕ)
+namesDown h = h .name ∷ h .chain
+
+-- one of these
 abbrev pub under : Held → List ℕ → Bool
-under h n = any (same n) (h .name ∷ h .chain)
+under h n = any (same n) (namesDown h)
 
 abbrev pub underPart : HeldPart → List ℕ → Bool
 underPart (alone h) n = under h n

@@ -14,8 +14,8 @@ use Rattle.model.specs.Words.{reserved}
 use Rattle.model.specs.WellFormed.{memoryFine}
 use Rattle.model.specs.Machine.{Usage}
 use Rattle.model.specs.Trace.{Call, Line}
-use Rattle.model.specs.Demand.{Start, Held, HeldPart, alone, pair, Frames, frames}
-use Rattle.model.specs.Checklist.{underEnabled}
+use Rattle.model.specs.Demand.{Start, HeldPart, alone, pair, Frames, frames}
+use Rattle.model.specs.Checklist.{namesDown, underEnabled}
 use Rattle.model.specs.Histories.{UsePromise, Begins, Calls, Lines, steadyBy}
 
 -- ---- whether the name is in use
@@ -32,10 +32,7 @@ pub record SaysTheSame (m : Memory) : Type 0 where
 
 -- ---- what is looked at, and in what order
 
--- [02 §2] an enabled frame's name, and those on its chain; the frames are the ones that demand 3 compares
-abbrev pub namesDown : Held → List (List ℕ)
-namesDown h = h .name ∷ h .chain
-
+-- [02 §2] an enabled frame's name, and those on its chain (`namesDown`), work before tool; the frames are the ones that demand 3 compares
 abbrev pub partNames : HeldPart → List (List ℕ)
 partNames (alone h) = namesDown h
 partNames (pair work tool) = namesDown work ++ namesDown tool

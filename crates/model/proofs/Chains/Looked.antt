@@ -6,21 +6,16 @@ use mathlib.Core.Bool.{Bool, _||_}
 use native.Mathlib.Omega.{arith}
 use lib.Dec.{eqb}
 use Rattle.model.specs.Types.{Kind, Ksd, Kst, Ksw, Ksb, Kld, Operating, Orientational, Levelling, OperatingPart, Single, Pair}
-use Rattle.model.specs.Lists.{any, table, joined, Search}
+use Rattle.model.specs.Lists.{any, joined, Search}
 use Rattle.model.specs.Kinds.{ofKind}
 use Rattle.model.specs.Memory.{System, Memory, Ref}
 use Rattle.model.specs.Chain.{predOf, hop, steps, chain, onChain}
 use Rattle.model.specs.Use.{operatingPlaces, inGroup, enabledRefs, inUse, downFrom, lookedAt}
-use Rattle.model.proofs.Searches.{Each, each-append, each-map, any-append, search-map}
+use Rattle.model.proofs.Searches.{Each, each-append, each-map, each-table, any-append, search-map}
 use Rattle.model.proofs.Memories.Fine.{Placed, PartPlaced, Systems, Fine}
 use Rattle.model.proofs.Memories.Found.{IsSystem, placed-system}
 
 -- ---- each is a system
-
-pub each-table : {A : Type 0} (P : A → Type 0) (n : ℕ) (f : ℕ → A) → ((i : ℕ) → P (f i)) → Each P (table n f)
-unfolding table
-each-table P zero f h = tt
-each-table P (suc n) f h = (h 0, each-table P n (λ i. f (suc i)) (λ i. h (suc i)))
 
 module _ (l : List System) (s : Systems l) (k : Kind) where
   -- a chain keeps to its type

@@ -18,8 +18,8 @@ use Rattle.model.specs.Chain.{hop, steps, chain}
 use Rattle.model.specs.Use.{inGroup, inUse, usedAt, nameInUse, downFrom, lookedAt, namesLookedAt, useTest}
 use Rattle.model.specs.Words.{reserved}
 use Rattle.model.specs.Demand.{HeldPart, alone, pair, held, heldPart, frames}
-use Rattle.model.specs.Checklist.{under, underPart, underEnabled}
-use Rattle.model.specs.Looking.{SaysTheSame, namesDown, partNames, frameNames}
+use Rattle.model.specs.Checklist.{namesDown, under, underPart, underEnabled}
+use Rattle.model.specs.Looking.{SaysTheSame, partNames, frameNames}
 use Rattle.model.proofs.Basics.{either, agree, true-false, none-some, or-left, or-right, same-refl, same→≡, ≡→same, any-at}
 use Rattle.model.proofs.Searches.{each-also, search-map, search-alike, any-append, any-front, any-behind, any-never}
 use Rattle.model.proofs.Chains.Hops.{ring-free}

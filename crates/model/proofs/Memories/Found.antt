@@ -2,12 +2,12 @@
 use Prim.Native.Nat.{ℕ, zero, suc, _≤_, _<_}
 use mathlib.Core.Path.{_≡_, refl, sym, ap, _∙_}
 use mathlib.Core.List.{List, [], _∷_}
-use mathlib.Core.Bool.{Bool, true, false, cond, not, _&&_}
+use mathlib.Core.Bool.{Bool, true, false, cond}
 use mathlib.Core.Option.{none, some}
 use mathlib.Core.Logic.{⊎-elim}
 use native.Mathlib.Omega.{arith}
 use native.Mathlib.Decide.{decLt}
-use borrow.Author.Tests.{not-true, lt-ltb}
+use borrow.Author.Tests.{lt-ltb}
 use lib.ListN.{length}
 use Rattle.model.specs.Types.{Kind, Group, Operating, Orientational, Levelling}
 use Rattle.model.specs.Ascii.{ascii}
@@ -15,10 +15,9 @@ use Rattle.model.specs.Lists.{any, same, oneOf}
 use Rattle.model.specs.Kinds.{ofKind, ofGroup, groups}
 use Rattle.model.specs.Memory.{System, Memory, Ref, systemAt, fixedRef, userRef, nameOf, placeNamed, isUser, fixedNamed, find}
 use Rattle.model.specs.Use.{inGroup}
-use Rattle.model.specs.WellFormed.{offsetsFine, turnsFine}
-use Rattle.model.specs.Words.{legalName, reserved}
-use Rattle.model.proofs.Basics.{and-split, either, true-false, same→≡}
-use Rattle.model.proofs.Memories.Fine.{Stands, Placed, Fine}
+use Rattle.model.specs.Words.{reserved}
+use Rattle.model.proofs.Basics.{either, true-false, same→≡}
+use Rattle.model.proofs.Memories.Fine.{Stands, Placed, Fine, own-of}
 use Rattle.model.proofs.Memories.Named.{place-stands, place-name, place-missing, user-place}
 
 -- a system of the list: a fixed one, or the user system at a place
@@ -48,12 +47,7 @@ fixed-reserved Levelling = refl
 module _ (m : Memory) (fine : Fine m) where
   -- no user system has a reserved name
   user-not-reserved : (k : ℕ) → Stands (m .systems) k → reserved (systemAt (m .systems) k .name) ≡ false
-  user-not-reserved k h =
-      let s = systemAt (m .systems) k in
-      let a = and-split (legalName (s .name) && not (reserved (s .name)) && offsetsFine (s .offset) && turnsFine (s .turns)) _ (fine .systems .own k h) in
-      let b = and-split (legalName (s .name) && not (reserved (s .name)) && offsetsFine (s .offset)) (turnsFine (s .turns)) (a .0) in
-      let c = and-split (legalName (s .name) && not (reserved (s .name))) (offsetsFine (s .offset)) (b .0) in
-      not-true (reserved (s .name)) (and-split (legalName (s .name)) (not (reserved (s .name))) (c .0) .1)
+  user-not-reserved k h = own-of (systemAt (m .systems) k) (fine .systems .own k h) .free
 
   pub user-name-free : (n : List ℕ) → isUser m n ≡ true → reserved n ≡ false
   user-name-free n u =
