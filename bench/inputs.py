@@ -69,6 +69,12 @@ def one_resultant(r, count):
     yield from ("KLT? " + NAMES[i % 16] for i in range(count))
 
 
+def one_seen(r, count):
+    """One system seen from another, all pairs of places in the chain."""
+    yield from chain_of_sixteen(r)
+    yield from ("KLT? %s %s" % (NAMES[i % 16], NAMES[i // 16 % 16]) for i in range(count))
+
+
 def refusals(r, count):
     yield from chain_of_sixteen(r)
     yield "KEN " + NAMES[15]
@@ -81,7 +87,7 @@ KINDS = {
     "definitions": (definitions, 400000), "links": (links, 400000), "copies": (copies, 400000), "removals": (removals, 400000),
     "enables": (enables, 400000), "KEN?": (listing("KEN?"), 400000), "KLN?": (listing("KLN?"), 200000),
     "KLS?": (listing("KLS?"), 60000), "KLT?": (listing("KLT?"), 60000), "KLT? name": (one_resultant, 200000),
-    "refusals": (refusals, 400000),
+    "KLT? A B": (one_seen, 200000), "refusals": (refusals, 400000),
 }
 
 
@@ -126,7 +132,8 @@ def random_line(r, names):
     elif c == "DPA":
         text = "DPA SKS" if r.random() < 0.1 else "KEN ZERO"
     elif c == "KLT?":
-        text = r.choice(["KLT?", "KLT? " + r.choice(names)])
+        some = names + ["ZERO", "PI_BASE", "PI_LEVELLING", "HEXAPOD"]
+        text = r.choice(["KLT?", "KLT? " + r.choice(some), "KLT? %s %s" % (r.choice(some), r.choice(some))])
     else:
         text = c
     if r.random() < 0.1:

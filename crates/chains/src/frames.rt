@@ -7,13 +7,11 @@ use model::Turns;
 use model::Vec3;
 use pose::Pose;
 ghost use mathlib.Core.Path.{_≡_};
-ghost use Prim.Native.Nat.{_≤_};
-ghost use Rattle.model.specs.Limits.{maxSystems};
 ghost use Rattle.model.specs.Stored.{systemsOf};
 ghost use Rattle.pose.specs.Poses.{poseOf};
 ghost use Rattle.chains.specs.Flat.{predsOf};
 ghost use Rattle.chains.specs.Frames.{framed, framesOf};
-ghost use Rattle.chains.specs.Walk.{walkOf, walked, atFixed, linkOn, poseAt, Holds, Linkable, Laid, Enough};
+ghost use Rattle.chains.specs.Walk.{walkOf, atFixed, linkOn, undoneOf, poseAt, Holds, Linkable, Laid, Enough, Near, Known, Reaches};
 
 // Own offsets and turns, three numbers to a system.
 pub struct Frames {
@@ -103,7 +101,8 @@ fn linked(before: Reached, offsets: &[i64], turns: &[u8], i: usize) -> Reached
 }
 
 // The resultant of a place and its steps, by a walk to its predecessor with one link less of depth. It ends at the fixed system, or sooner at a
-// place `stop` that has been reached before: what is reached there is known. In a well-formed memory a depth of MAX_SYSTEMS is enough for every place.
+// place `stop` that has been reached before: what is reached there is known. (A walk that stops at the fixed system may begin there with any pose, which
+// the resultant then follows on from.) In a well-formed memory a depth of MAX_SYSTEMS is enough for every place.
 pub fn reach(
     offsets: &[i64],
     turns: &[u8],
@@ -114,10 +113,9 @@ pub fn reach(
     depth: usize,
 ) -> Reached
     requires { ⌜ Laid (now offsets) (now turns) (now preds) ⌝ }
-    requires { ⌜ walkOf known ≡ walked (framed (now offsets) (now turns) (now preds)) stop ⌝ }
+    requires { ⌜ Known (framed (now offsets) (now turns) (now preds)) stop (walkOf known) ⌝ }
     requires { ⌜ Enough (framed (now offsets) (now turns) (now preds)) place depth ⌝ }
-    ensures { λ r. ⌜ walkOf r ≡ walked (framed (now (offsets .entry)) (now (turns .entry)) (now (preds .entry))) place ⌝ }
-    ensures { λ r. ⌜ r .steps ≤ maxSystems ⌝ }
+    ensures { λ r. ⌜ Reaches (framed (now (offsets .entry)) (now (turns .entry)) (now (preds .entry))) stop (walkOf known) place (walkOf r) ⌝ }
 {
     if place == stop {
         return known;
@@ -129,4 +127,22 @@ pub fn reach(
     let pred = preds[i] as usize;
     let before = reach(offsets, turns, preds, stop, known, pred, depth - 1);
     linked(before, offsets, turns, i)
+}
+
+// What undoes what was reached: the inverse pose, with the links that led there. A walk that goes on from it sees another system from this one.
+pub fn undone(r: Reached) -> Reached
+    requires { ⌜ Near (walkOf r) ⌝ }
+    ensures { λ u. ⌜ walkOf u ≡ undoneOf (walkOf r) ⌝ }
+{
+    let there = r.at;
+    let turned = r.rot;
+    let pose = Pose {
+        at: there,
+        rot: turned,
+    };
+    let back = pose.inverse();
+    let at = back.at;
+    let rot = back.rot;
+    let steps = r.steps;
+    Reached { at, rot, steps }
 }

@@ -5,7 +5,7 @@ use chains::links::on_chain;
 use chains::used::at_place;
 use chains::used::in_use;
 use facts::groups::guarded;
-use facts::groups::order_of;
+use facts::groups::same_group;
 use facts::kinds::code_of;
 use facts::limits::MAX_SYSTEMS;
 use model::Enabled;
@@ -45,7 +45,7 @@ pub fn wrong_pred(a: Subject, b: Subject) -> bool
     if b.place == 0 {
         let group = b.group;
         let own = a.group;
-        return order_of(group) != order_of(own);
+        return !same_group(group, own);
     }
     let kind = b.kind;
     let own = a.kind;

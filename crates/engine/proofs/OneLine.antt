@@ -25,6 +25,7 @@ use Rattle.commands.specs.declared.subject.Subject.{Subject}
 use Rattle.commands.specs.Subject.{Tells}
 use Rattle.commands.specs.Obeyed.{obeyed}
 use Rattle.commands.proofs.Asked.{place-is, found-is}
+use Rattle.engine.specs.declared.lists.End.the-variants.{OfChain}
 use Rattle.engine.specs.Answers.{oneLine}
 
 module _ (st : State) (a b : List ℕ) where
@@ -69,13 +70,15 @@ module _ (s : StoredState) (a : List ℕ) (x : Subject) (tells : Tells (memoryOf
   none-found e = sym (found-is (memoryOf (s .volatile)) a x tells) ∙ rw e refl
 
   pub user-answers : (k : ℕ) → x .found ≡ User k →
-      obeyed (stateOf s) (asks (list (resultantOf a))) b ≡ answered (stateOf s) (oneLine (s .volatile) Operating (x .place)) b
+      obeyed (stateOf s) (asks (list (resultantOf a))) b ≡ answered (stateOf s) (oneLine (s .volatile) Operating (x .place) OfChain) b
+  unfolding oneLine
   user-answers k e =
       let l = systemsOf (s .volatile) in
       rw (obeyed-found (stateOf s) a b (userRef l (x .place)) (user-found k e), ref-by-place l (x .place)) refl
 
   pub fixed-answers : (g : Group) → x .found ≡ Fixed g →
-      obeyed (stateOf s) (asks (list (resultantOf a))) b ≡ answered (stateOf s) (oneLine (s .volatile) g 0) b
+      obeyed (stateOf s) (asks (list (resultantOf a))) b ≡ answered (stateOf s) (oneLine (s .volatile) g 0 OfChain) b
+  unfolding oneLine
   fixed-answers g e = obeyed-found (stateOf s) a b (fixedRef g) (fixed-found g e)
 
   pub absent-answers : x .found ≡ Absent → obeyed (stateOf s) (asks (list (resultantOf a))) b ≡ refused (withError (stateOf s) 7) 7 b

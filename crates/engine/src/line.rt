@@ -5,6 +5,7 @@ use crate::answer::silent;
 use crate::lists::enabled_line;
 use crate::lists::error_line;
 use crate::lists::links_line;
+use crate::lists::relative_line;
 use crate::lists::resultant_line;
 use crate::lists::resultants_line;
 use crate::lists::systems_line;
@@ -74,6 +75,7 @@ fn carry_out(m: Memory, level: u8, error: u8, q: Request, reply: &mut [u8]) -> S
         Asked::ListLinks => links_line(m, reply),
         Asked::ListResultants => resultants_line(m, reply),
         Asked::ListResultant => resultant_line(m, subject_of(m, a, b), reply),
+        Asked::ListRelative => relative_line(m, look(m, a, b), reply),
         Asked::LastError => error_line(error, reply),
     }
 }

@@ -1,7 +1,7 @@
 // What is said of a group.
 use model::Group;
 ghost use mathlib.Core.Path.{_≡_};
-ghost use Rattle.model.specs.Kinds.{ofGroup};
+ghost use Rattle.model.specs.Kinds.{sameGroup, ofGroup};
 
 // Its place in lists.
 pub fn order_of(g: Group) -> u8
@@ -12,6 +12,12 @@ pub fn order_of(g: Group) -> u8
         Group::Orientational => 1,
         Group::Levelling => 2,
     }
+}
+
+pub fn same_group(g: Group, h: Group) -> bool
+    ensures { λ r. ⌜ r ≡ sameGroup g h ⌝ }
+{
+    order_of(g) == order_of(h)
 }
 
 // Its systems need level 1.

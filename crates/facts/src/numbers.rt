@@ -32,7 +32,7 @@ pub const RESERVED: u8 = 8;
 // The level is too low.
 pub const LOCKED: u8 = 9;
 
-// A system of another type.
+// A system of another type, or of another group.
 pub const OTHER_TYPE: u8 = 10;
 
 // The system is in use.

@@ -10,5 +10,7 @@ pub mod Saved  -- the checklist: save, switch off, switch on, list
 pub mod Checklist  -- all four
 pub mod Stored  -- demand 3 and the checklist of stored states
 pub mod Looking  -- document 02 §2: the test for use stops when the name is found
+pub mod Relative  -- document 02 §3: one frame seen from another
+pub mod Between  -- the same over stored states, and between systems in use
 pub mod Switched  -- document 02 §7: what the power switch brings back
 pub mod Bench  -- the program of the bench: what goes where, and what the file holds

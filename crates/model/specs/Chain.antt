@@ -1,7 +1,7 @@
 -- Document 01, "Memory and state" and "Poses and chains": chains. One definition, `hop`; all the rest is said with it.
 use Rattle.model.specs.Base.{ℕ, zero, suc, List, Bool, eqb, length}
 use Rattle.model.specs.Lists.{all, any, table, least}
-use Rattle.model.specs.Pose.{Pose, rotOf, neutral, followed}
+use Rattle.model.specs.Pose.{Pose, rotOf, neutral, followed, inverse}
 use Rattle.model.specs.Memory.{System, systemAt}
 
 -- [Memory 2, 3] the place of a system's predecessor; a fixed system's chain ends where it is
@@ -42,3 +42,7 @@ poseOver l (suc i) q = followed (poseOver l i (predOf l q)) (ownPose l q)
 -- [Poses] the resultant of the system at place q
 unfoldable pub resultant : List System → ℕ → Pose
 resultant l q = poseOver l (steps l q) q
+
+-- [02 §3] the pose of the system at place a in the one at place b: the resultant of b undone, then that of a
+unfoldable pub poseIn : List System → ℕ → ℕ → Pose
+poseIn l a b = followed (inverse (resultant l b)) (resultant l a)

@@ -19,7 +19,7 @@ reason n =
     (has n 7 "absent: there is no system of that name"
     (has n 8 "reserved: the name is kept for a fixed system"
     (has n 9 "locked: this needs level 1 (CCL 1 ADVANCED)"
-    (has n 10 "wrong type: no link goes there, or the name is that of a system of another type"
+    (has n 10 "wrong type: no link goes there, or a system named is of another type or group"
     (has n 11 "in use: it is enabled, or an enabled system hangs on it"
     (has n 12 "ring: a system would hang on itself"
     (has n 13 "full: there are 16 systems already"

@@ -4,7 +4,7 @@ use native.Mathlib.Omega.{arith}
 use lib.IntN.{natAbs}
 use Rattle.signed.proofs.Sizes.{natAbs-neg}
 use Rattle.model.proofs.Poses.Turning.{coord-keeps}
-use Rattle.model.specs.Pose.{Pose, coord, turned, plus, minus, origin, followed}
+use Rattle.model.specs.Pose.{Pose, coord, turned, plus, minus, origin, followed, transposed, inverse}
 use Rattle.pose.specs.Types.{Dir, Nx, Ny, Nz, Rot, Vec3}
 use Rattle.pose.specs.Poses.{Within}
 use Rattle.pose.proofs.Sums.{natAbs-add}
@@ -38,3 +38,7 @@ within-plus h k v w hv hw =
 -- each link of a chain adds at most its own offset
 pub within-followed : (h k : ℕ) (p t : Pose) → Within h (p .at) → Within k (t .at) → Within (h + k) ((followed p t) .at)
 within-followed h k p t hp ht = within-plus h k (p .at) (turned (p .rot) (t .at)) hp (within-turned k (p .rot) (t .at) ht)
+
+-- and what is undone stands as far off
+pub within-inverse : (h : ℕ) (p : Pose) → Within h (p .at) → Within h (inverse p .at)
+within-inverse h p w = within-turned h (transposed (p .rot)) (minus (p .at)) (within-minus h (p .at) w)

@@ -39,7 +39,7 @@ fn put_words(number: u8, out: &mut [u8], at: usize) -> usize
         10 => put_text(
             out,
             at,
-            b"wrong type: no link goes there, or the name is that of a system of another type",
+            b"wrong type: no link goes there, or a system named is of another type or group",
         ),
         11 => put_text(
             out,

@@ -9,3 +9,4 @@ pub mod PlanLaws
 pub mod EnabledLaws
 pub mod ReachLaws
 pub mod KeptLaws
+pub mod RelativeLaws

@@ -11,7 +11,7 @@ use Rattle.model.specs.Memory.{System, Ref, fixedRef}
 use Rattle.model.specs.Reply.{decimal, sixValues}
 use Rattle.reply.specs.Types.{Vec3, Turns, Group, Operating, Orientational, Levelling}
 use Rattle.reply.specs.Values.{byGroup}
-use Rattle.reply.specs.Lines.{systemText, atFixed, predText, linkText, enabledText, resultantText, fixedLines}
+use Rattle.reply.specs.Lines.{systemText, atFixed, predText, linkText, enabledText, poseText, resultantText, fixedLines}
 
 pub length-system : (s : System) → length (systemText s) ≡ 11 + length (s .name) + length (ofKind (s .kind) .shown) + length (sixValues (s .offset) (s .turns))
 unfolding systemText joined
@@ -21,10 +21,13 @@ pub length-link : (s : System) (n : List ℕ) → length (linkText s n) ≡ leng
 unfolding linkText joined
 length-link s n = simp (length-append, append-nil) (omega arith)
 
-pub length-resultant : (n : List ℕ) (g : Group) (t : Vec3) (r : Turns) (k : ℕ)
-    → length (resultantText n g t r k) ≡ 33 + length n + length (ofGroup g .end) + length (sixValues t r) + length (decimal k)
-unfolding resultantText joined
-length-resultant n g t r k = simp (length-append, append-nil) (omega arith)
+pub length-pose : (t : Vec3) (r : Turns) (k : ℕ) → length (poseText t r k) ≡ 7 + length (sixValues t r) + length (decimal k)
+unfolding poseText joined
+length-pose t r k = simp (length-append, append-nil) (omega arith)
+
+pub length-resultant : (n e : List ℕ) (t : Vec3) (r : Turns) (k : ℕ) → length (resultantText n e t r k) ≡ 26 + length n + length e + length (poseText t r k)
+unfolding resultantText poseText joined
+length-resultant n e t r k = simp (length-append, append-nil) (omega arith)
 
 pub length-fixed : (f : Ref → List ℕ) → length (fixedLines f) ≡ 4 + length (f (fixedRef Operating)) + length (f (fixedRef Orientational)) + length (f (fixedRef Levelling))
 length-fixed f = simp length-append (omega arith)
@@ -37,15 +40,6 @@ at-fixed p a b e = rw e
 pub at-user : (p : ℕ) (a b : List ℕ) → (p ≡ 0 → ⊥) → atFixed p a b ≡ b
 at-user zero a b h = absurd (h refl)
 at-user (suc k) a b h = refl
-
-module _ (s : System) (n : List ℕ) where
-  pub pred-fixed : s .pred ≡ 0 → predText s n ≡ ofGroup (ofKind (s .kind) .group) .name
-  unfolding predText
-  pred-fixed e = at-fixed (s .pred) (ofGroup (ofKind (s .kind) .group) .name) n e
-
-  pub pred-user : (s .pred ≡ 0 → ⊥) → predText s n ≡ n
-  unfolding predText
-  pred-user h = at-user (s .pred) (ofGroup (ofKind (s .kind) .group) .name) n h
 
 module _ (g : Group) (p : ℕ) (s : System) where
   pub enabled-fixed : p ≡ 0 → enabledText g p s ≡ byGroup g (ascii "ZERO=ZERO") (ascii "PI_BASE=KSB(PI)") (ascii "PI_LEVELLING=KLD(PI)")

@@ -7,15 +7,16 @@ use lib.IntN.{ℤ}
 use lib.ListN.{length, take, getD, length-take, length-map}
 use Rattle.model.specs.Kinds.{ofKind}
 use Rattle.model.specs.Memory.{System, systemAt, nameOf, fixedRef, userRef}
-use Rattle.model.specs.Reply.{resultantLine}
+use Rattle.model.specs.Reply.{poseLine, resultantLine}
 use Rattle.model.specs.Stored.{bytesOf, systemsOf, memoryOf, FineMemory}
 use Rattle.model.proofs.Open.{definitions-open}
 use Rattle.pose.specs.Poses.{Within, reach}
+use Rattle.pose.proofs.Bounds.{within-more}
 use Rattle.chains.specs.Flat.{predsOf, LinksOf}
 use Rattle.chains.specs.Frames.{framed, framesOf}
-use Rattle.chains.specs.Walk.{Walk, walked, Walkable, Laid, Enough}
+use Rattle.chains.specs.Walk.{farthest, Walk, walked, undoneOf, Walkable, Laid, Enough, Near}
 use Rattle.chains.proofs.Copies.{unset}
-use Rattle.chains.proofs.Reaching.{resultant-within}
+use Rattle.chains.proofs.Reaching.{walked-near, walked-undone}
 use Rattle.chains.proofs.Ready.{walkable, ready, ready-at, ready-walk}
 use Rattle.model.proofs.Shape.{shaped-count, systemsOf-count}
 use Rattle.reply.specs.Types.{Group, StoredMemory}
@@ -24,7 +25,7 @@ use Rattle.reply.specs.Reached.{reachedText, refAt}
 use Rattle.reply.proofs.StoredLaws.{stands-at}
 
 line-at : (l : List System) (i : ℕ) → let s = systemAt l (suc i) in resultantLine l (userRef l (suc i)) ≡ reachedText (s .name) (ofKind (s .kind) .group) (walked l (suc i))
-unfolding resultantLine nameOf resultantText
+unfolding resultantLine poseLine nameOf resultantText
 line-at l i = refl
 
 -- ---- which system a place is
@@ -75,14 +76,24 @@ module _ {m : StoredMemory} {preds : List ℕ} {offsets : List ℤ} {turns : Lis
   pub deep-enough : (q : ℕ) → q ≤ m .count → Enough (framed offsets turns (take (m .count) preds)) q 16
   deep-enough q h = ready-at (systemsOf m) can offsets turns (take (m .count) preds) (flat .links) (flat .frames) q (omega (arith, as-many))
 
+  -- what the flat numbers lead to is what the memory's own chains lead to
+  pub flat-walk : (q : ℕ) → walked (framed offsets turns (take (m .count) preds)) q ≡ walked (systemsOf m) q
+  flat-walk q = ready-walk (systemsOf m) can offsets turns (take (m .count) preds) (flat .links) (flat .frames) q
+
+  -- and no farther off
+  pub walk-near : (q : ℕ) → q ≤ m .count → {w : Walk} → w ≡ walked (systemsOf m) q → Near w
+  walk-near q h e = subst Near (sym e) (walked-near (systemsOf m) can q (omega (arith, as-many)))
+
+  pub undone-near : (q : ℕ) → q ≤ m .count → {w : Walk} → w ≡ undoneOf (walked (systemsOf m) q) → Near w
+  undone-near q h e = subst Near (sym e) (walked-undone (systemsOf m) can q (omega (arith, as-many)))
+
   -- what is reached from place q, that of the stored system i
   module _ {q i : ℕ} {w : Walk} (e : q ≡ suc i) (h : i < m .count) (is : w ≡ walked (framed offsets turns (take (m .count) preds)) q) where
     reached : w ≡ walked (systemsOf m) (suc i)
-    reached = is ∙ ready-walk (systemsOf m) can offsets turns (take (m .count) preds) (flat .links) (flat .frames) q ∙ ap (walked (systemsOf m)) e
+    reached = is ∙ flat-walk q ∙ ap (walked (systemsOf m)) e
 
     pub reached-within : Within reach (w .pose .at)
-    reached-within =
-        subst (λ (v : Walk). Within reach (v .pose .at)) (sym reached) (resultant-within (systemsOf m) can (suc i) (omega (arith, as-many)))
+    reached-within = within-more farthest reach (w .pose .at) (omega arith) (walk-near (suc i) (omega arith) reached .at)
 
     pub reached-line : let s = getD (m .systems) i unset in resultantLine (systemsOf m) (userRef (systemsOf m) (suc i)) ≡ reachedText (bytesOf (s .name)) (ofKind (s .kind) .group) w
     reached-line =

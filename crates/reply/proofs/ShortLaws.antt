@@ -8,23 +8,23 @@ use native.Mathlib.Decide.{decLt}
 use lib.IntN.{ℤ, pos, natAbs}
 use lib.ListN.{length, length-append}
 use Rattle.model.specs.Lists.{joined}
-use Rattle.model.specs.Limits.{quarterTurn, mostTurns, offsetLimit, bufferLimit}
+use Rattle.model.specs.Limits.{maxSystems, quarterTurn, mostTurns, offsetLimit, bufferLimit}
 use Rattle.model.specs.Kinds.{ofKind, ofGroup}
-use Rattle.model.specs.Pose.{shown}
-use Rattle.model.specs.Memory.{System, Ref, fixedRef, userRef, systemAt, nameOf, typeOf, predName, named}
-use Rattle.model.specs.Chain.{steps, resultant}
+use Rattle.model.specs.Pose.{Pose, shown}
+use Rattle.model.specs.Memory.{System, Memory, Ref, fixedRef, userRef, systemAt, nameOf, typeOf, predName, named}
+use Rattle.model.specs.Chain.{steps, resultant, poseIn}
 use Rattle.model.specs.WellFormed.{turnsFine}
 use Rattle.model.specs.Use.{operatingPlaces, inGroup, enabledRefs}
-use Rattle.model.specs.Request.{enabledOnes, systemsAll, links, resultants, resultantOf}
-use Rattle.model.specs.Reply.{value, degrees, sixValues, listing, everySystem, enabledLine, linkLine, systemLine, resultantLine, listed}
+use Rattle.model.specs.Request.{enabledOnes, systemsAll, links, resultants, resultantOf, resultantIn}
+use Rattle.model.specs.Reply.{value, degrees, sixValues, listing, everySystem, enabledLine, linkLine, systemLine, poseLine, resultantLine, relativeLine, listed}
 use Rattle.model.proofs.Memories.Fine.{Systems, own-of, turns-of, fine-of, blank-beyond}
 use Rattle.model.proofs.Memories.Named.{named-place, place-within}
 use Rattle.model.proofs.Words.{legalName-short}
 use Rattle.pose.specs.Poses.{Within}
 use Rattle.pose.proofs.Bounds.{within-more}
 use Rattle.model.proofs.Poses.Showing.{shown-fine}
-use Rattle.chains.specs.Walk.{farthest, Walkable}
-use Rattle.chains.proofs.Reaching.{few-steps, resultant-far}
+use Rattle.chains.specs.Walk.{farthest, farthestApart, Walkable}
+use Rattle.chains.proofs.Reaching.{few-steps, resultant-far, seen-far}
 use Rattle.chains.proofs.Ready.{walkable}
 use Rattle.model.proofs.Digits.{decimal-short}
 use Rattle.print.proofs.Laws.{value-short}
@@ -37,17 +37,17 @@ use Rattle.reply.proofs.StoredLaws.{turns-at}
 
 -- ---- the parts of a line
 
--- the digits before the point of the longest value: a resultant's coordinate in millimetres
+-- the digits before the point of the longest value: a coordinate, in millimetres, of one system seen from another
 abbrev wholes : ℕ
 wholes = 5
 
-coordinate-short : (z : ℤ) → natAbs z ≤ farthest → length (value z) ≤ wholes + 8
+coordinate-short : (z : ℤ) → natAbs z ≤ farthestApart → length (value z) ≤ wholes + 8
 coordinate-short z h = value-short wholes z (omega arith) (omega arith)
 
 turn-short : (n : ℕ) → n ≤ mostTurns → length (degrees n) ≤ wholes + 8
 turn-short n h = value-short wholes (pos (n * quarterTurn)) (omega arith) (omega arith)
 
-six-short : (t : Vec3) (r : Turns) → Within farthest t → turnsFine r ≡ true → length (sixValues t r) ≤ 96
+six-short : (t : Vec3) (r : Turns) → Within farthestApart t → turnsFine r ≡ true → length (sixValues t r) ≤ 96
 six-short t r w f =
     let q = turns-of r f in
     omega (
@@ -114,16 +114,40 @@ module _ (l : List System) (fine : Systems l) (w : Walkable l) where
   unfolding systemLine joined
   system-short r =
       let s = systemAt l (r .place) in
-      let six = six-short (s .offset) (s .turns) (within-more offsetLimit farthest (s .offset) (omega arith) (w .offsets (r .place))) (turns-at l fine (r .place)) in
+      let six = six-short (s .offset) (s .turns) (within-more offsetLimit farthestApart (s .offset) (omega arith) (w .offsets (r .place))) (turns-at l fine (r .place)) in
       simp (length-append, append-nil) (omega (arith, name-short (r .group) (r .place), type-short (r .group) (r .place), six))
 
+  -- a line of KLT?, of a pose that two chains can lead to
+  pose-short : (n e : List ℕ) (p : Pose) (k : ℕ) → Within farthestApart (p .at) → k ≤ maxSystems + maxSystems → length (poseLine n e p k) ≤ length n + length e + 131
+  unfolding poseLine joined
+  pose-short n e p k far few =
+      let six = six-short (p .at) (shown (p .rot)) far (shown-fine (p .rot)) in
+      let count = decimal-short 2 k (omega arith) (omega (arith, few)) in
+      simp (length-append, append-nil) (omega (arith, six, count))
+
   pub resultant-short : (r : Ref) → r .place ≤ length l → length (resultantLine l r) ≤ 158
-  unfolding resultantLine joined
+  unfolding resultantLine
   resultant-short r h =
       let p = resultant l (r .place) in
-      let six = six-short (p .at) (shown (p .rot)) (resultant-far l w (r .place) h) (shown-fine (p .rot)) in
-      let count = decimal-short 2 (steps l (r .place)) (omega arith) (omega (arith, few-steps l w (r .place) h)) in
-      simp (length-append, append-nil) (omega (arith, name-short (r .group) (r .place), group-short (r .group) .2, six, count))
+      let far = within-more farthest farthestApart (p .at) (omega arith) (resultant-far l w (r .place) h) in
+      omega (
+        arith,
+        name-short (r .group) (r .place),
+        group-short (r .group) .2,
+        pose-short (nameOf l r) (ofGroup (r .group) .end) p (steps l (r .place)) far (omega (arith, few-steps l w (r .place) h)),
+      )
+
+  pub relative-short : (r e : Ref) → r .place ≤ length l → e .place ≤ length l → length (relativeLine l r e) ≤ 163
+  unfolding relativeLine
+  relative-short r e h k =
+      let far = seen-far l w (r .place) (e .place) h k in
+      let both : steps l (r .place) + steps l (e .place) ≤ maxSystems + maxSystems = omega (arith, few-steps l w (r .place) h, few-steps l w (e .place) k) in
+      omega (
+        arith,
+        name-short (r .group) (r .place),
+        name-short (e .group) (e .place),
+        pose-short (nameOf l r) (nameOf l e) (poseIn l (r .place) (e .place)) (steps l (r .place) + steps l (e .place)) far both,
+      )
 
 -- ---- lists
 
@@ -153,6 +177,9 @@ refs-short line e h = go (e .operating)
     go (Single p) = simp (length-append, append-nil) (omega (arith, h (inGroup Operating p), h o, h v))
     go (Pair w t) = simp (length-append, append-nil) (omega (arith, h (inGroup Operating w), h (inGroup Operating t), h o, h v))
 
+named-within : (m : Memory) (a : List ℕ) → named m a .place ≤ length (m .systems)
+named-within m a = rw (named-place m a) (place-within (m .systems) a)
+
 pub listed-short : RepliesFit
 unfolding listed listing
 listed-short m f enabledOnes = refs-short (enabledLine (m .systems)) (m .enabled) (enabled-short (m .systems) (fine-of m f .systems) (walkable m f))
@@ -166,6 +193,8 @@ listed-short m f resultants =
     let s = fine-of m f .systems in
     every-short (resultantLine (m .systems)) (m .systems) (s .few) (resultant-short (m .systems) s (walkable m f))
 listed-short m f (resultantOf a) =
-    let within : named m a .place ≤ length (m .systems) = rw (named-place m a) (place-within (m .systems) a) in
-    let n = resultant-short (m .systems) (fine-of m f .systems) (walkable m f) (named m a) within in
+    let n = resultant-short (m .systems) (fine-of m f .systems) (walkable m f) (named m a) (named-within m a) in
+    rw length-append (omega arith)
+listed-short m f (resultantIn a b) =
+    let n = relative-short (m .systems) (fine-of m f .systems) (walkable m f) (named m a) (named m b) (named-within m a) (named-within m b) in
     rw length-append (omega arith)

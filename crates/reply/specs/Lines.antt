@@ -42,9 +42,13 @@ abbrev pub atFixed : ℕ → List ℕ → List ℕ → List ℕ
 atFixed zero a b = a
 atFixed (suc k) a b = b
 
+-- the name of the system at a place of the group: the fixed one's, or the user system's name n
+abbrev pub nameText : Group → ℕ → List ℕ → List ℕ
+nameText g place n = atFixed place (ofGroup g .name) n
+
 -- the name of the predecessor of s: its group's fixed system, or the user system named n
 unfoldable pub predText : System → List ℕ → List ℕ
-predText s n = atFixed (s .pred) (ofGroup (ofKind (s .kind) .group) .name) n
+predText s n = nameText (ofKind (s .kind) .group) (s .pred) n
 
 -- KLN?
 unfoldable pub linkText : System → List ℕ → List ℕ
@@ -55,10 +59,14 @@ unfoldable pub enabledText : Group → ℕ → System → List ℕ
 enabledText g p s =
     atFixed p (joined (ofGroup g .name ∷ ascii "=" ∷ ofGroup g .shown ∷ [])) (joined (s .name ∷ ascii "=" ∷ ofKind (s .kind) .shown ∷ []))
 
--- KLT?
-unfoldable pub resultantText : List ℕ → Group → Vec3 → Turns → ℕ → List ℕ
-resultantText n g t r k =
-    joined (ascii "Name=" ∷ n ∷ ascii " EndCoordinateSystem=" ∷ ofGroup g .end ∷ sixValues t r ∷ ascii " Steps=" ∷ decimal k ∷ [])
+-- KLT?: a pose by its offset and shown triple, and steps
+unfoldable pub poseText : Vec3 → Turns → ℕ → List ℕ
+poseText t r k = joined (sixValues t r ∷ ascii " Steps=" ∷ decimal k ∷ [])
+
+-- the whole line, with the end from which the pose is seen
+unfoldable pub resultantText : List ℕ → List ℕ → Vec3 → Turns → ℕ → List ℕ
+resultantText n e t r k =
+    joined (ascii "Name=" ∷ n ∷ ascii " EndCoordinateSystem=" ∷ e ∷ sixValues t r ∷ ascii " Steps=" ∷ decimal k ∷ [])
 
 -- ---- a list
 

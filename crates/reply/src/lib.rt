@@ -26,6 +26,7 @@ pub mod texts; // texts.rt: types, groups and own values as text
 pub mod line; // line.rt: the lines of the lists
 pub mod enabled; // enabled.rt: KEN?
 pub mod resultants; // resultants.rt: KLT?
+pub mod relative; // relative.rt: KLT? A B
 
 // The index of the system at a place; for place 0, no user system's, that of some system.
 fn slot(place: u8) -> usize

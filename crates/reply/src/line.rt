@@ -20,13 +20,27 @@ ghost use mathlib.Core.List.{[]};
 ghost use Prim.Native.Nat.{_+_, _≤_, _<_};
 ghost use lib.ListN.{length};
 ghost use Rattle.model.specs.Limits.{nameLimit};
+ghost use Rattle.model.specs.Kinds.{ofGroup};
 ghost use Rattle.model.specs.Memory.{fixedRef};
 ghost use Rattle.model.specs.WellFormed.{turnsFine};
 ghost use Rattle.model.specs.Stored.{bytesOf, systemOf};
 ghost use Rattle.model.specs.Reply.{systemLine, linkLine};
 ghost use Rattle.pose.specs.Poses.{Within, reach};
 ghost use Rattle.print.specs.Over.{Wrote};
-ghost use Rattle.reply.specs.Lines.{Writable, systemText, predText, linkText, enabledText, resultantText, further, atFixed};
+ghost use Rattle.reply.specs.Lines.{Writable, systemText, nameText, predText, linkText, enabledText, poseText, resultantText, further, atFixed};
+
+// ---- names
+
+// The name of the fixed system of the group (place 0), or this one, of a user system.
+pub fn put_system_name(out: &mut [u8], at: usize, g: Group, place: u8, name: Name) -> usize
+    requires { ⌜ (0 < place → name .len ≤ nameLimit) × (at + length (nameText g place (bytesOf name)) ≤ length (now out)) ⌝ }
+    ensures { λ r. ⌜ Wrote (nameText g place (bytesOf name)) (now (out .entry)) at (now (out .exit)) r ⌝ }
+{
+    if place == 0 {
+        return put_fixed_name(out, at, g);
+    }
+    put_name(out, at, name)
+}
 
 // ---- KLS?
 
@@ -74,11 +88,8 @@ fn put_pred(out: &mut [u8], at: usize, s: System, pred: Name) -> usize
     requires { ⌜ (pred .len ≤ nameLimit) × (at + length (predText (systemOf s) (bytesOf pred)) ≤ length (now out)) ⌝ }
     ensures { λ r. ⌜ Wrote (predText (systemOf s) (bytesOf pred)) (now (out .entry)) at (now (out .exit)) r ⌝ }
 {
-    if s.pred == 0 {
-        let kind = s.kind;
-        return put_fixed_name(out, at, group_of(kind));
-    }
-    put_name(out, at, pred)
+    let kind = s.kind;
+    put_system_name(out, at, group_of(kind), s.pred, pred)
 }
 
 fn put_user_link(out: &mut [u8], at: usize, s: System, pred: Name) -> usize
@@ -147,23 +158,32 @@ pub fn put_further_enabled(part: &mut [u8], g: Group, place: u8, s: System) -> u
 
 // ---- KLT?
 
+// A pose by its offset and shown triple, and steps.
+pub fn put_pose(out: &mut [u8], at: usize, t: Vec3, shown: Turns, steps: u8) -> usize
+    requires { ⌜ Within reach t × (turnsFine shown ≡ true) × (at + length (poseText t shown steps) ≤ length (now out)) ⌝ }
+    ensures { λ n. ⌜ Wrote (poseText t shown steps) (now (out .entry)) at (now (out .exit)) n ⌝ }
+{
+    let a = put_six_values(out, at, t, shown);
+    let b = put_text(out, a, b" Steps=");
+    put_decimal(out, b, steps as u64)
+}
+
+// The line of a user system, with the end of its chain.
 pub fn put_resultant(
     out: &mut [u8],
     at: usize,
     name: Name,
     g: Group,
     t: Vec3,
-    r: Turns,
+    shown: Turns,
     steps: u8,
 ) -> usize
-    requires { ⌜ (name .len ≤ nameLimit) × Within reach t × (turnsFine r ≡ true) × (at + length (resultantText (bytesOf name) g t r steps) ≤ length (now out)) ⌝ }
-    ensures { λ n. ⌜ Wrote (resultantText (bytesOf name) g t r steps) (now (out .entry)) at (now (out .exit)) n ⌝ }
+    requires { ⌜ (name .len ≤ nameLimit) × Within reach t × (turnsFine shown ≡ true) × (at + length (resultantText (bytesOf name) (ofGroup g .end) t shown steps) ≤ length (now out)) ⌝ }
+    ensures { λ n. ⌜ Wrote (resultantText (bytesOf name) (ofGroup g .end) t shown steps) (now (out .entry)) at (now (out .exit)) n ⌝ }
 {
     let a = put_text(out, at, b"Name=");
     let b = put_name(out, a, name);
     let c = put_text(out, b, b" EndCoordinateSystem=");
     let d = put_end(out, c, g);
-    let e = put_six_values(out, d, t, r);
-    let f = put_text(out, e, b" Steps=");
-    put_decimal(out, f, steps as u64)
+    put_pose(out, d, t, shown, steps)
 }

@@ -11,7 +11,7 @@ use borrow.Author.Tests.{ne-eqb}
 use Rattle.model.specs.declared.Kind.{Kind}
 use Rattle.model.specs.Ascii.{ascii}
 use Rattle.model.specs.Lists.{all, none?, same}
-use Rattle.model.specs.Request.{Reading, malformed, asksChange, asksList, setLevel, resultants, resultantOf, definition, names?, oneName, twoNames, sameWords, fixedWords, levelWords, resultantWords}
+use Rattle.model.specs.Request.{Reading, malformed, asksChange, asksList, setLevel, resultants, resultantOf, resultantIn, definition, names?, oneName, twoNames, sameWords, fixedWords, levelWords, resultantWords}
 use Rattle.model.specs.Words.{legalName}
 use Rattle.model.proofs.Basics.{and-false, either, same-refl, same→≡, true-false}
 
@@ -122,11 +122,18 @@ module _ (w : List ℕ) where
 
 -- ---- KLT?
 
-module _ (args : List (List ℕ)) where
-  pub every-resultant : none? args ≡ true → resultantWords args ≡ asksList resultants
-  unfolding resultantWords
-  every-resultant e = rw e
+pub every-resultant : resultantWords [] ≡ asksList resultants
+unfolding resultantWords none?
+every-resultant = refl
 
-  pub one-resultant : none? args ≡ false → resultantWords args ≡ oneName (λ a. asksList (resultantOf a)) args
-  unfolding resultantWords
-  one-resultant e = rw e
+-- by whether there are words behind the first
+module _ (a : List ℕ) where
+  pub one-resultant : (ws : List (List ℕ)) → none? ws ≡ true → resultantWords (a ∷ ws) ≡ oneName (λ a. asksList (resultantOf a)) (a ∷ ws)
+  unfolding resultantWords none?
+  one-resultant [] e = refl
+  one-resultant (b ∷ ws) e = true-false (sym e)
+
+  pub two-resultants : (ws : List (List ℕ)) → none? ws ≡ false → resultantWords (a ∷ ws) ≡ twoNames (λ a b. asksList (resultantIn a b)) (a ∷ ws)
+  unfolding resultantWords none?
+  two-resultants [] e = true-false e
+  two-resultants (b ∷ ws) e = rw (ne-eqb (suc (suc (length ws))) 1 (λ h. omega arith))

@@ -15,7 +15,7 @@ use Rattle.model.specs.Request as model
 use Rattle.model.specs.Told.{Told, tells, refuses}
 use Rattle.text.specs.Readings.{readingTold}
 use Rattle.request.specs.declared.Asked.{Asked}
-use Rattle.request.specs.declared.Asked.the-variants.{Unknown, Malformed, Beyond, Define, Link, Copy, Remove, Enable, SetLevel, Save, Restore, Reset, ListEnabled, ListSystems, ListLinks, ListResultants, ListResultant, LastError}
+use Rattle.request.specs.declared.Asked.the-variants.{Unknown, Malformed, Beyond, Define, Link, Copy, Remove, Enable, SetLevel, Save, Restore, Reset, ListEnabled, ListSystems, ListLinks, ListResultants, ListResultant, ListRelative, LastError}
 use Rattle.request.specs.declared.Request.{Request}
 
 -- [Commands; Errors 4 to 6] each case, with the names and values beside it
@@ -37,6 +37,7 @@ askedTold ListSystems a b t u = tells (model.list model.systemsAll)
 askedTold ListLinks a b t u = tells (model.list model.links)
 askedTold ListResultants a b t u = tells (model.list model.resultants)
 askedTold ListResultant a b t u = tells (model.list (model.resultantOf a))
+askedTold ListRelative a b t u = tells (model.list (model.resultantIn a b))
 askedTold LastError a b t u = tells model.lastError
 
 -- the whole request

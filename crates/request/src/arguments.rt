@@ -130,14 +130,20 @@ fn level(line: &[u8], at: usize) -> Request
     plain(Asked::Malformed)
 }
 
+// By how many words there are: none, one, or more.
 fn resultants(line: &[u8], at: usize) -> Request
     requires { ⌜ at ≤ length (now line) ⌝ }
     ensures { λ r. ⌜ Says r (resultantWords (wordsFrom (now (line .entry)) at)) ⌝ }
 {
-    if ended(line, at) {
+    let w = next_word(line, at);
+    let end = w.end;
+    if w.start == end {
         return plain(Asked::ListResultants);
     }
-    one_name(line, at, Asked::ListResultant)
+    if ended(line, end) {
+        return one_name(line, at, Asked::ListResultant);
+    }
+    two_names(line, at, Asked::ListRelative)
 }
 
 // A name, then axis pairs: 5 for the form of the whole line before 6 for a value.

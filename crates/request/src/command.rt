@@ -23,7 +23,7 @@ pub enum Form {
     Alone(Asked),
     // 0, or 1 ADVANCED
     Level,
-    // none or one name
+    // none, one name or two
     Resultants,
 }
 

@@ -32,6 +32,7 @@ pub enum Asked {
     ListLinks,
     ListResultants,
     ListResultant,
+    ListRelative,
     LastError,
 }
 

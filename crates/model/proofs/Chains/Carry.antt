@@ -1,8 +1,10 @@
 -- Two lists of systems that are alike along a chain, up to a renaming of places: the chain goes through the renaming, with the same steps, names and resultant.
-use Prim.Native.Nat.{ℕ, zero, suc, _<_}
-use mathlib.Core.Path.{_≡_, refl, sym, ap, _∙_}
+use Prim.Native.Nat.{ℕ, zero, suc, _+_, _<_}
+use mathlib.Core.Path.{_≡_, refl, sym, ap, subst, _∙_}
 use mathlib.Core.List.{List, map}
+use native.Mathlib.Omega.{arith}
 use lib.Dec.{eqb}
+use lib.ListN.{length}
 use borrow.Author.Tests.{eq-eqb, eqb-true}
 use Rattle.model.specs.Types.{Group}
 use Rattle.model.specs.Memory.{System, Memory, nameOf}
@@ -10,7 +12,7 @@ use Rattle.model.specs.Use.{inGroup}
 use Rattle.model.specs.Chain.{predOf, hop, steps, chain, ownPose, poseOver, resultant}
 use Rattle.model.specs.Demand.{held}
 use Rattle.model.proofs.Basics.{table-cong, map-table}
-use Rattle.model.proofs.Chains.Hops.{hop-last}
+use Rattle.model.proofs.Chains.Hops.{hop-add, hop-last, hop-past}
 use Rattle.model.proofs.Chains.Steps.{Ends, steps-first, steps-end, steps-before, chain-length}
 
 -- ---- alike
@@ -51,14 +53,13 @@ module _ (l l′ : List System) (f : ℕ → ℕ) where
     unfolding resultant
     carried-resultant = rw carried-steps (carried-pose (steps l q) q alike)
 
-    pub carried-names : (g : Group) → map (λ p. nameOf l′ (inGroup g p)) (chain l′ (f q)) ≡ map (λ p. nameOf l (inGroup g p)) (chain l q)
+    -- whatever is told of the places of a chain, where it is told alike of each
+    pub carried-chain : {A : Type 0} (n n′ : ℕ → A) → ((i : ℕ) → n′ (f (hop l i q)) ≡ n (hop l i q)) → map n′ (chain l′ (f q)) ≡ map n (chain l q)
     unfolding chain
-    carried-names g =
-        let n : ℕ → List ℕ = λ p. nameOf l (inGroup g p) in
-        let n′ : ℕ → List ℕ = λ p. nameOf l′ (inGroup g p) in
+    carried-chain n n′ same =
         map-table n′ (steps l′ (f q)) (λ i. hop l′ (suc i) (f q))
         ∙ rw carried-steps (table-cong (steps l q) (λ i. n′ (hop l′ (suc i) (f q))) (λ i. n (hop l (suc i) q))
-        (λ i h. ap n′ (carried-hop q alike (suc i)) ∙ alike (suc i) .name g))
+        (λ i h. ap n′ (carried-hop q alike (suc i)) ∙ same (suc i)))
         ∙ sym (map-table n (steps l q) (λ i. hop l (suc i) q))
 
 -- place q goes to place f q with its whole chain
@@ -67,6 +68,18 @@ pub record Carried (m m′ : Memory) (f : ℕ → ℕ) (q : ℕ) : Type 0 where
   pub ends : Ends (m .systems) q
   pub ends-after : Ends (m′ .systems) (f q)
 
+-- and so with every place on its chain
+pub carried-on : (m m′ : Memory) (f : ℕ → ℕ) (q : ℕ) → Carried m m′ f q → (i : ℕ) → Carried m m′ f (hop (m .systems) i q)
+carried-on m m′ f q c i =
+    record {
+      alike = λ j. subst (Alike (m .systems) (m′ .systems) f) (hop-add (m .systems) i j q) (c .alike (i + j));
+      ends = ends-on (m .systems) i q (c .ends);
+      ends-after = rw (sym (carried-hop (m .systems) (m′ .systems) f q (c .alike) i)) (ends-on (m′ .systems) i (f q) (c .ends-after));
+    }
+  where
+    ends-on : (l : List System) (i q : ℕ) → Ends l q → Ends l (hop l i q)
+    ends-on l i q e = sym (hop-add l i (length l) q) ∙ hop-past l (length l) (i + length l) q (omega arith) e
+
 -- what demand 3 compares of an enabled system
 pub carried-held : (m m′ : Memory) (f : ℕ → ℕ) (g : Group) (q : ℕ) → Carried m m′ f q → held m′ (inGroup g (f q)) ≡ held m (inGroup g q)
 unfolding held hop
@@ -74,7 +87,7 @@ carried-held m m′ f g q c =
     let l = m .systems in
     let l′ = m′ .systems in
     let name : nameOf l′ (inGroup g (f q)) ≡ nameOf l (inGroup g q) = c .alike 0 .name g in
-    let names = carried-names l l′ f q (c .alike) (c .ends) (c .ends-after) g in
+    let names = carried-chain l l′ f q (c .alike) (c .ends) (c .ends-after) (λ p. nameOf l (inGroup g p)) (λ p. nameOf l′ (inGroup g p)) (λ i. c .alike i .name g) in
     let pose = carried-resultant l l′ f q (c .alike) (c .ends) (c .ends-after) in
     let count = chain-length l′ (f q) ∙ carried-steps l l′ f q (c .alike) (c .ends) (c .ends-after) ∙ sym (chain-length l q) in
     λ i. record { name = name i; chain = names i; resultant = pose i; steps = count i }

@@ -17,12 +17,13 @@ use Rattle.model.specs.Chain.{predOf, hop, steps, chain, resultant}
 use Rattle.model.specs.WellFormed.{wellFormed}
 use Rattle.model.specs.Request.{reading, asks, list, resultants}
 use Rattle.model.specs.Refusals.{first}
-use Rattle.model.specs.Reply.{decimal, sixValues, listing, everySystem, resultantLine}
+use Rattle.model.specs.Reply.{decimal, sixValues, listing, everySystem, poseLine, resultantLine}
 use Rattle.model.specs.Demand.{startState, Defined, OperatingDefined, Reaches, Sound, Replies, Listed, Demand3}
 use Rattle.model.specs.Trace.{afterCalls, afterLines}
 use Rattle.model.proofs.Open.{definitions-open}
 use Rattle.model.proofs.Chains.Hops.{hop-last, ring-free}
 use Rattle.model.proofs.Chains.Steps.{Ends, steps-within, steps-end, steps-before, chain-length, chain-zero}
+use Rattle.model.proofs.Chains.Standing.{Unmoved}
 use Rattle.model.proofs.Memories.Fine.{Placed, PartPlaced, Systems, Fine, state-of, fine-of}
 use Rattle.model.proofs.Ladder.Queries.{query-replies}
 use Rattle.model.proofs.Histories.Kept.{well-formed-kept}
@@ -97,7 +98,7 @@ klt-shown st w = query-replies st w (ascii "KLT?") resultants klt-read refl refl
 klt-line : (l : List System) (r : Ref) → (rest : List ℕ) ×
     (resultantLine l r
     ≡ ascii "Name=" ++ (nameOf l r ++ (ascii " EndCoordinateSystem=" ++ (rest ++ (ascii " Steps=" ++ decimal (length (chain l (r .place))))))))
-unfolding resultantLine joined
+unfolding resultantLine poseLine joined
 klt-line l r =
     let p = resultant l (r .place) in
     let six = sixValues (p .at) (shown (p .rot)) in
@@ -118,5 +119,5 @@ demand-3 start first second s =
       volatile = sound (st .volatile) (fine-of (st .volatile) (f .volatile));
       permanent = sound (st .permanent) (fine-of (st .permanent) (f .permanent));
       listed = klt-listed st w;
-      still = still-lines (afterCalls (startState start) first) second s;
+      still = ap (λ (u : Unmoved). u .frames) (still-lines (afterCalls (startState start) first) second s);
     }

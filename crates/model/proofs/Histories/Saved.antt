@@ -1,27 +1,26 @@
 -- The checklist's fourth item: what an accepted WPA saved is back after a restart or a start from the image, and every listing with it.
 use Prim.Native.Nat.{ℕ, _≤_}
-use mathlib.Core.Path.{_≡_, refl, sym, ap, _∙_}
+use mathlib.Core.Path.{_≡_, refl, ap, _∙_}
 use mathlib.Core.List.{List}
-use mathlib.Core.Bool.{Bool, true, false, cond}
-use borrow.Author.Tests.{le-ltb, eqb-true}
-use lib.Dec.{eqb}
+use mathlib.Core.Bool.{true}
+use borrow.Author.Tests.{le-ltb}
 use lib.ListN.{length, take, drop}
 use lib.Seq.{take-append-seam}
 use Rattle.model.specs.Limits.{bufferLimit}
 use Rattle.model.specs.Memory.{State, started}
 use Rattle.model.specs.WellFormed.{wellFormed}
-use Rattle.model.specs.Request.{Query, reading, asks, list}
-use Rattle.model.specs.Refusals.{short, refusal, ladder, requestLadder, readingLadder}
+use Rattle.model.specs.Request.{reading}
+use Rattle.model.specs.Refusals.{short, queryLadder}
 use Rattle.model.specs.Reply.{listed}
 use Rattle.model.specs.Image.{image}
-use Rattle.model.specs.Machine.{Outcome, Begun, began, written, stepped, restart, writeImage, startImage}
+use Rattle.model.specs.Machine.{Begun, began, stepped, restart, writeImage, startImage}
 use Rattle.model.specs.Trace.{Line, afterLines}
 use Rattle.model.specs.Demand.{noneTaken}
 use Rattle.model.specs.Checklist.{asksToSave, ListsAlike, startFrom, switchedOn, SavedComesBack}
-use Rattle.model.proofs.Ladder.Refusing.{step-fine, step-number, judged-refused, restart-fine, image-fine}
+use Rattle.model.proofs.Ladder.Refusing.{restart-fine, image-fine}
 use Rattle.model.proofs.Edits.Saving.{permanent-read, line-permanent}
 use Rattle.model.proofs.Histories.Untaken.{untaken-lines}
-use Rattle.model.proofs.Ladder.Queries.{query-taken}
+use Rattle.model.proofs.Ladder.Queries.{query-alike}
 use Rattle.model.proofs.Memories.Fine.{state-of}
 use Rattle.model.proofs.Ladder.Exact.{start-some}
 use Rattle.model.proofs.Image.Exactly.{reads-back}
@@ -38,28 +37,8 @@ unsaved-lines = untaken-lines asksToSave (λ st. st .permanent) (λ st n. refl) 
 
 -- ---- listings depend on the volatile memory alone
 
-module _ (line b : List ℕ) (q : Query) (asked : reading line ≡ asks (list q)) where
-  query-number : (st st′ : State) → st′ .volatile ≡ st .volatile → refusal st′ line b ≡ refusal st line b
-  unfolding refusal ladder readingLadder requestLadder
-  query-number st st′ e = rw (asked, e)
-
-  -- what is written, by whether it is accepted
-  query-parts : (st : State) → wellFormed st ≡ true → (t : Bool) → eqb (refusal st line b) 0 ≡ t →
-      (stepped st line b .count ≡ cond t (length (listed (st .volatile) q)) 0) × (stepped st line b .buffer ≡ cond t (written (listed (st .volatile) q) b) b)
-  query-parts st w true e =
-      let o = query-taken st w line q asked b (eqb-true (refusal st line b) 0 e) in
-      (ap (λ (o : Outcome). o .count) o, ap (λ (o : Outcome). o .buffer) o)
-  query-parts st w false e =
-      let o = step-fine st line b w ∙ judged-refused st (refusal st line b) (reading line) b e in
-      (ap (λ (o : Outcome). o .count) o, ap (λ (o : Outcome). o .buffer) o)
-
 pub lists-alike : (st st′ : State) → wellFormed st ≡ true → wellFormed st′ ≡ true → st′ .volatile ≡ st .volatile → ListsAlike st st′
-lists-alike st st′ w w′ e line b q asked =
-    let n = query-number line b q asked st st′ e in
-    let t = eqb (refusal st line b) 0 in
-    let p = query-parts line b q asked st w t refl in
-    let p′ = query-parts line b q asked st′ w′ t (ap (λ n. eqb n 0) n) in
-    (step-number st′ line b w′ ∙ n ∙ sym (step-number st line b w), p′ .0 ∙ rw e (sym (p .0)), p′ .1 ∙ rw e (sym (p .1)))
+lists-alike st st′ w w′ e line b q asked = query-alike line b q asked st st′ w w′ (ap (λ m. queryLadder m q) e) (ap (λ m. listed m q) e)
 
 -- ---- back
 

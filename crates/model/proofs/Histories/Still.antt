@@ -1,4 +1,5 @@
--- Frames hold still: a line that is no accepted KEN, RPA or DPA leaves the enabled systems, their chains and their resultants.
+-- Frames hold still: a line that is no accepted KEN, RPA or DPA leaves the enabled systems, their chains and their resultants,
+-- and so every system in use.
 use Prim.Native.Nat.{ℕ, suc, _-_, _≤_, _<_}
 use mathlib.Core.Path.{_≡_, refl, ap, _∙_}
 use mathlib.Core.List.{List, [], _∷_, _++_}
@@ -17,7 +18,7 @@ use Rattle.model.specs.Effects.{withSystems, withPred, withName, put, fr
 use Rattle.model.specs.Machine.{carriedOut}
 use Rattle.model.specs.Trace.{Line, afterLines}
 use Rattle.model.specs.Claims.{applies}
-use Rattle.model.specs.Demand.{frames, changesEnabled, asksToEnable, steady}
+use Rattle.model.specs.Demand.{changesEnabled, asksToEnable, steady}
 use Rattle.model.proofs.Basics.{or-false, either, true-false}
 use Rattle.model.proofs.Chains.Hops.{InRange, hop-past, ring-free, ends-in-time}
 use Rattle.model.proofs.Chains.Steps.{Ends}
@@ -28,7 +29,8 @@ use Rattle.model.proofs.Memories.Fine.{Fine, Stands, preds-within, stat
 use Rattle.model.proofs.Memories.Named.{user-place, place-stands, place-name, present-user}
 use Rattle.model.proofs.Ladder.First.{Clear, clear-of}
 use Rattle.model.proofs.Histories.Untaken.{untaken-lines}
-use Rattle.model.proofs.Chains.Frames.{each-also, each-both, carried-frames, enabled-unmoved, enabled-within, unused-missed}
+use Rattle.model.proofs.Chains.Frames.{each-also, each-both, enabled-unmoved, enabled-within, unused-missed}
+use Rattle.model.proofs.Chains.Standing.{unmoved, carried-unmoved}
 
 -- ---- the edits
 
@@ -40,10 +42,10 @@ module _ (m : Memory) (fine : Fine m) where
   ends q h = ring-free (m .systems) (fine .ringless) q h
 
   -- the system at a place that is not in use, replaced
-  still-replaced : (k : ℕ) (s : System) → 0 < k → inUse m k ≡ false → frames (withSystems m (set (m .systems) (k - 1) s)) ≡ frames m
+  still-replaced : (k : ℕ) (s : System) → 0 < k → inUse m k ≡ false → unmoved (withSystems m (set (m .systems) (k - 1) s)) ≡ unmoved m
   unfolding l
   still-replaced k s pos free =
-      carried-frames m m′ (λ q. q) (enabled-unmoved (m .enabled))
+      carried-unmoved m m′ (λ q. q) (enabled-unmoved (m .enabled))
       (each-also (λ q. (q ≤ length l) × Misses l k q) (Carried m m′ (λ q. q)) (m .enabled) at
       (each-both (λ q. q ≤ length l) (Misses l k) (m .enabled) (enabled-within m fine) (unused-missed m fine k pos free)))
     where
@@ -59,10 +61,10 @@ module _ (m : Memory) (fine : Fine m) where
           }
 
   -- a system put last
-  still-added : (s : System) → frames (withSystems m (m .systems ++ (s ∷ []))) ≡ frames m
+  still-added : (s : System) → unmoved (withSystems m (m .systems ++ (s ∷ []))) ≡ unmoved m
   unfolding l
   still-added s =
-      carried-frames m m′ (λ q. q) (enabled-unmoved (m .enabled))
+      carried-unmoved m m′ (λ q. q) (enabled-unmoved (m .enabled))
       (each-also (λ q. q ≤ length l) (Carried m m′ (λ q. q)) (m .enabled) at (enabled-within m fine))
     where
       m′ : Memory
@@ -82,10 +84,10 @@ module _ (m : Memory) (fine : Fine m) where
           }
 
   -- the system at a place that is not in use, removed
-  pub still-removed : (a : ℕ) → Stands (m .systems) a → inUse m a ≡ false → frames (removedAt m a) ≡ frames m
+  pub still-removed : (a : ℕ) → Stands (m .systems) a → inUse m a ≡ false → unmoved (removedAt m a) ≡ unmoved m
   unfolding l removedAt
   still-removed a st free =
-      carried-frames m (removedAt m a) f refl
+      carried-unmoved m (removedAt m a) f refl
       (each-also (λ q. (q ≤ length l) × Misses l a q) (Carried m (removedAt m a) f) (m .enabled) at
       (each-both (λ q. q ≤ length l) (Misses l a) (m .enabled) (enabled-within m fine) (unused-missed m fine a (st .0) free)))
     where
@@ -110,11 +112,11 @@ module _ (m : Memory) (fine : Fine m) where
           }
 
   -- a definition, a copy or a link: over a system that is not in use, or a new one
-  pub still-put : (s : System) → nameInUse m (s .name) ≡ false → frames (put m s) ≡ frames m
+  pub still-put : (s : System) → nameInUse m (s .name) ≡ false → unmoved (put m s) ≡ unmoved m
   unfolding put usedAt isUser
   still-put s free = ⊎-elim over (λ u. rw u (still-added s)) (either (isUser m (s .name)))
     where
-      over : isUser m (s .name) ≡ true → frames (put m s) ≡ frames m
+      over : isUser m (s .name) ≡ true → unmoved (put m s) ≡ unmoved m
       over u = rw u (still-replaced (placeNamed (m .systems) (s .name)) s (user-place m (s .name) u) (rw u at free))
 
   user-of : (a : List ℕ) → absent m a ≡ false → reserved a ≡ false →
@@ -124,12 +126,12 @@ module _ (m : Memory) (fine : Fine m) where
       let h = user-place m a u in
       (place-stands (m .systems) a h, place-name (m .systems) a h, u)
 
-  pub still-linked : (a b : List ℕ) → absent m a ≡ false → reserved a ≡ false → nameInUse m a ≡ false → frames (linked m a b) ≡ frames m
+  pub still-linked : (a b : List ℕ) → absent m a ≡ false → reserved a ≡ false → nameInUse m a ≡ false → unmoved (linked m a b) ≡ unmoved m
   unfolding linked
   still-linked a b p r free = still-put (withPred (userNamed m a) (named m b .place)) (rw (user-of a p r .1) free)
 
   pub still-gone : (a : List ℕ) → absent m a ≡ false → reserved a ≡ false → nameInUse m a ≡ false →
-      frames (removedAt m (placeNamed (m .systems) a)) ≡ frames m
+      unmoved (removedAt m (placeNamed (m .systems) a)) ≡ unmoved m
   unfolding usedAt isUser
   still-gone a p r free = let u = user-of a p r in still-removed (placeNamed (m .systems) a) (u .0) (rw (u .2) at free)
 
@@ -137,7 +139,7 @@ module _ (m : Memory) (fine : Fine m) where
 
 -- an accepted change other than KEN, RPA and DPA
 pub still-changed : (st : State) → Fine (st .volatile) → (c : Change) → changesEnabled c ≡ false → Clear (changeLadder st (st .volatile) c) →
-    frames (changed st (st .volatile) c .volatile) ≡ frames (st .volatile)
+    unmoved (changed st (st .volatile) c .volatile) ≡ unmoved (st .volatile)
 unfolding changed changesEnabled changeLadder applies any fresh
 still-changed st fine (define k n t u) e clear =
     let m = st .volatile in
@@ -161,7 +163,7 @@ still-changed st fine reset e clear = true-false e
 
 -- any accepted line
 still-read : (st : State) → Fine (st .volatile) → (r : Reading) (b : List ℕ) → asksToEnable r ≡ false → Clear (readingLadder st r) →
-    frames (carriedOut st r b .state .volatile) ≡ frames (st .volatile)
+    unmoved (carriedOut st r b .state .volatile) ≡ unmoved (st .volatile)
 unfolding carriedOut asksToEnable readingLadder requestLadder next
 still-read st fine unknown b e clear = refl
 still-read st fine malformed b e clear = refl
@@ -171,7 +173,7 @@ still-read st fine (asks (list q)) b e clear = refl
 still-read st fine (asks lastError) b e clear = refl
 
 -- every list of lines without an accepted KEN, RPA or DPA
-pub still-lines : (st : State) (cs : List Line) → steady st cs ≡ true → frames (afterLines st cs .volatile) ≡ frames (st .volatile)
+pub still-lines : (st : State) (cs : List Line) → steady st cs ≡ true → unmoved (afterLines st cs .volatile) ≡ unmoved (st .volatile)
 still-lines =
-    untaken-lines asksToEnable (λ st. frames (st .volatile)) (λ st n. refl)
+    untaken-lines asksToEnable (λ st. unmoved (st .volatile)) (λ st n. refl)
     (λ st line b w z e. still-read st (fine-of (st .volatile) (state-of st w .volatile)) (reading line) b e (clear-of st line b z))

@@ -82,24 +82,28 @@ lines-steady st h (stored.then-line s s′ c r cs ns p rest) e =
     and-join (ap (λ (k : ℕ). not (eqb k 0 && asks)) (sym n) ∙ a .0)
     (lines-steady (o .state) (line-state s st h (c .bytes) (c .buffer) r p) rest (a .1))
 
--- ---- KLT? sent next
+-- ---- a line that only the buffer can refuse
 
-module _ (s : StoredState) (st : State) (h : viewOf s ≡ holds st) (text : List ℕ) (k : Replies st (ascii "KLT?") text) where
-  klt-outcome : (b : List ℕ) (r : Returned) → LinePromise s (ascii "KLT?") b r → bufferLimit ≤ length b → standsFor r ≡ ofOutcome (answered st text b)
-  klt-outcome b r p room = line-promised s st h (ascii "KLT?") b r p ∙ ap ofOutcome (k .taken b room)
+module _ (s : StoredState) (st : State) (h : viewOf s ≡ holds st) (line text : List ℕ) (k : Replies st line text) where
+  line-outcome : (b : List ℕ) (r : Returned) → LinePromise s line b r → bufferLimit ≤ length b → standsFor r ≡ ofOutcome (answered st text b)
+  line-outcome b r p room = line-promised s st h line b r p ∙ ap ofOutcome (k .taken b room)
 
-  klt-text : (b : List ℕ) (r : Returned) → LinePromise s (ascii "KLT?") b r → bufferLimit ≤ length b → take (r .count) (r .buffer) ≡ text
-  klt-text b r p room =
-      let e = klt-outcome b r p room in
-      ap (λ (a : Answered). take (a .count) (a .buffer)) e ∙ take-append-seam text (drop (length text) b)
+  pub line-taken : (b : List ℕ) (r : Returned) → LinePromise s line b r → bufferLimit ≤ length b → r .number ≡ 0
+  line-taken b r p room = ap (λ (a : Answered). a .number) (line-outcome b r p room)
 
-  klt-prints : text ≡ listing (map (resultantLine (stateOf s .volatile .systems)) (everySystem (stateOf s .volatile .systems))) → KltPrints s
-  klt-prints e =
-      record {
-        short = λ b r p few. line-number s st h (ascii "KLT?") b r p ∙ k .short b few;
-        taken = λ b r p room. ap (λ (a : Answered). a .number) (klt-outcome b r p room);
-        text = λ b r p room. klt-text b r p room ∙ e;
-      }
+  pub line-text : (b : List ℕ) (r : Returned) → LinePromise s line b r → bufferLimit ≤ length b → take (r .count) (r .buffer) ≡ text
+  line-text b r p room =
+      ap (λ (a : Answered). take (a .count) (a .buffer)) (line-outcome b r p room) ∙ take-append-seam text (drop (length text) b)
+
+-- KLT? sent next
+klt-prints : (s : StoredState) (st : State) (h : viewOf s ≡ holds st) (text : List ℕ) → Replies st (ascii "KLT?") text →
+    text ≡ listing (map (resultantLine (stateOf s .volatile .systems)) (everySystem (stateOf s .volatile .systems))) → KltPrints s
+klt-prints s st h text k e =
+    record {
+      short = λ b r p few. line-number s st h (ascii "KLT?") b r p ∙ k .short b few;
+      taken = line-taken s st h (ascii "KLT?") text k;
+      text = λ b r p room. line-text s st h (ascii "KLT?") text k b r p room ∙ e;
+    }
 
 -- ---- demand 3 and the checklist
 

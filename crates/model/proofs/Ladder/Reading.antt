@@ -18,7 +18,7 @@ use Rattle.model.specs.Limits.{quarterTurn}
 use Rattle.model.specs.Kinds.{ofKind}
 use Rattle.model.specs.Words.{words, legalName, number, angle?, quarters}
 use Rattle.model.specs.WellFormed.{offsetsFine, turnsFine, noOffset}
-use Rattle.model.specs.Request.{Change, Query, Reading, Command, Values, reading, unknown, malformed, beyond, asks, change, list, lastError, define, link, copy, remove, enable, setLevel, save, restore, reset, enabledOnes, systemsAll, links, resultants, resultantOf, axis, firstAxis, mayCome, pairs, noValues, given, inRange, offsetsOf, turnsOf, definition, names?, word, oneName, twoNames, sameWords, fixedWords, levelWords, resultantWords, definitions, edits, settings, queries, commands, readBy, readWords}
+use Rattle.model.specs.Request.{Change, Query, Reading, Command, Values, reading, unknown, malformed, beyond, asks, change, list, lastError, define, link, copy, remove, enable, setLevel, save, restore, reset, enabledOnes, systemsAll, links, resultants, resultantOf, resultantIn, axis, firstAxis, mayCome, pairs, noValues, given, inRange, offsetsOf, turnsOf, definition, names?, word, oneName, twoNames, sameWords, fixedWords, levelWords, resultantWords, definitions, edits, settings, queries, commands, readBy, readWords}
 use Rattle.model.specs.Claims.{LegalDefinition, AsksNothingIllegal}
 use Rattle.model.proofs.Basics.{and-split, and-join, or-left, or-right, either, all-at, none-some}
 
@@ -44,6 +44,7 @@ queryLegal systemsAll = true
 queryLegal links = true
 queryLegal resultants = true
 queryLegal (resultantOf a) = legalName a
+queryLegal (resultantIn a b) = legalName a && legalName b
 
 unfoldable pub legal : Reading → Bool
 legal unknown = true
@@ -182,7 +183,16 @@ level-legal args =
 
 resultant-legal : (args : List (List ℕ)) → legal (resultantWords args) ≡ true
 unfolding resultantWords legal queryLegal
-resultant-legal args = ⊎-elim (λ e. rw e) (λ e. rw e (one-legal (λ a. asks (list (resultantOf a))) (λ a h. h) args)) (either (none? args))
+resultant-legal args = ⊎-elim (λ e. rw e) (λ e. rw e named) (either (none? args))
+  where
+    one : legal (oneName (λ a. asks (list (resultantOf a))) args) ≡ true
+    one = one-legal (λ a. asks (list (resultantOf a))) (λ a h. h) args
+
+    two : legal (twoNames (λ a b. asks (list (resultantIn a b))) args) ≡ true
+    two = two-legal (λ a b. asks (list (resultantIn a b))) (λ a b h. h) args
+
+    named : legal (cond (eqb (length args) 1) (oneName (λ a. asks (list (resultantOf a))) args) (twoNames (λ a b. asks (list (resultantIn a b))) args)) ≡ true
+    named = ⊎-elim (λ e. rw e one) (λ e. rw e two) (either (eqb (length args) 1))
 
 -- ---- every command
 

@@ -9,10 +9,10 @@ use native.Mathlib.Decide.{decLt}
 use borrow.Author.Tests.{eqb-true, leb-true, ltb-true, eq-eqb, le-leb, lt-ltb, not-true}
 use lib.Dec.{eqb, leb, ltb}
 use lib.ListN.{length, getD, List·getD-eq-default}
-use Rattle.model.specs.Types.{Kind, Ksd, Kst, Ksw, Ksb, Kld, Vec3, Turns, Enabled, OperatingPart, Single, Pair}
+use Rattle.model.specs.Types.{Kind, Ksd, Kst, Ksw, Ksb, Kld, Group, Operating, Orientational, Levelling, Vec3, Turns, Enabled, OperatingPart, Single, Pair}
 use Rattle.model.specs.Lists.{all, any, same}
 use Rattle.model.specs.Limits.{maxSystems, mostTurns}
-use Rattle.model.specs.Kinds.{ofKind, sameKind}
+use Rattle.model.specs.Kinds.{ofKind, sameKind, ofGroup, sameGroup}
 use Rattle.model.specs.Memory.{System, Memory, State, systemAt, blank}
 use Rattle.model.specs.Chain.{noRing}
 use Rattle.model.specs.Words.{legalName, reserved, offset?}
@@ -38,6 +38,20 @@ same-kind j k e = sym (by-code-is j) ∙ ap by-code (eqb-true (ofKind j .code) (
 
 pub kind-same : {j k : Kind} → j ≡ k → sameKind j k ≡ true
 kind-same {j} {k} e = rw e (eq-eqb (ofKind k .code) (ofKind k .code) refl)
+
+-- ---- groups by their order
+
+by-order : ℕ → Group
+by-order c = cond (eqb c 0) Operating (cond (eqb c 1) Orientational Levelling)
+
+by-order-is : (g : Group) → by-order (ofGroup g .order) ≡ g
+unfolding by-order
+by-order-is Operating = refl
+by-order-is Orientational = refl
+by-order-is Levelling = refl
+
+pub same-group : (g h : Group) → sameGroup g h ≡ true → g ≡ h
+same-group g h e = sym (by-order-is g) ∙ ap by-order (eqb-true (ofGroup g .order) (ofGroup h .order) e) ∙ by-order-is h
 
 -- ---- places
 

@@ -71,7 +71,7 @@ module _ (m : Memory) (fine : Fine m) where
       go (yes p) = fine .systems .differ (placeNamed l n) k (place-stands l n p) h (place-name l n p)
       go (no p) = absurd (place-missing l n (omega arith) k h refl)
 
-  fixed-found : (g : Group) → find m (ofGroup g .name) ≡ some (fixedRef g)
+  pub fixed-found : (g : Group) → find m (ofGroup g .name) ≡ some (fixedRef g)
   unfolding find fixedNamed same reserved oneOf any
   fixed-found Operating = rw (reserved-no-user (ofGroup Operating .name) refl)
   fixed-found Orientational = rw (reserved-no-user (ofGroup Orientational .name) refl)

@@ -21,7 +21,7 @@ use Rattle.model.proofs.Poses.Laws.{placed-followed, follow-assoc, neut
 
 -- ---- alike and the same
 
-alike : (p q : Pose) → p ≡ q → Alike p q
+pub alike : (p q : Pose) → p ≡ q → Alike p q
 alike p q e = record { offset = ap (λ (s : Pose). s .at) e; turns = ap (λ (s : Pose). shown (s .rot)) e }
 
 one : (p q : Pose) → Named (p .rot) → Named (q .rot) → Alike p q → p ≡ q
@@ -69,7 +69,7 @@ fine-minus v = fine-turned (record { a = Nx; b = Ny; c = Nz }) v
 
 -- ---- chains
 
-named-over : (l : List System) (i q : ℕ) → Named (poseOver l i q .rot)
+pub named-over : (l : List System) (i q : ℕ) → Named (poseOver l i q .rot)
 unfolding poseOver ownPose
 named-over l zero q = named-unturned
 named-over l (suc i) q = named-after (poseOver l i (predOf l q) .rot) (ownPose l q .rot) (named-over l i (predOf l q)) (named-turns (systemAt l q .turns))

@@ -11,6 +11,7 @@ use Rattle.model.specs.Examples.Images.{OfImages}
 use Rattle.model.specs.Examples.Histories.{OfHistories}
 use Rattle.model.specs.Examples.Storage.{OfStorage}
 use Rattle.model.specs.Examples.Use.{OfUse}
+use Rattle.model.specs.Examples.Relative.{OfRelative}
 use Rattle.model.specs.Examples.Bench.{OfBench}
 use Rattle.model.specs.Demand.{changesEnabled, asksToEnable, noneTaken}
 use Rattle.model.specs.Histories.{steadyBy}
@@ -113,6 +114,10 @@ of-use : OfUse
 unfolding sessions-open
 of-use = record { factory-state = refl; looks = refl; stops = refl; substitute = refl; volatile = refl }
 
+of-relative : OfRelative
+unfolding sessions-open
+of-relative = record { each-way = refl; joined = refl; fixed = refl; groups = refl; long-names = refl; numbers = refl }
+
 of-bench : OfBench
 unfolding sessions-open asksToSave saves reason storedActs acted ksbench gathered byteOf poweredOn fileAfter
 of-bench =
@@ -140,4 +145,4 @@ of-bench =
 
 pub examples : Examples
 examples =
-    record { memories = of-memories; poses = of-poses; lines = of-lines; commands = of-commands; lists = of-lists; numbers = of-numbers; images = of-images; histories = of-histories; storage = of-storage; in-use = of-use; bench = of-bench }
+    record { memories = of-memories; poses = of-poses; lines = of-lines; commands = of-commands; lists = of-lists; numbers = of-numbers; images = of-images; histories = of-histories; storage = of-storage; in-use = of-use; relative = of-relative; bench = of-bench }

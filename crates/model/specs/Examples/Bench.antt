@@ -40,7 +40,7 @@ pub record OfBench : Type 0 where
   pub seven : reasonLine 7 ≡ ascii "7: absent: there is no system of that name\n"
   pub eight : reasonLine 8 ≡ ascii "8: reserved: the name is kept for a fixed system\n"
   pub nine : reasonLine 9 ≡ ascii "9: locked: this needs level 1 (CCL 1 ADVANCED)\n"
-  pub ten : reasonLine 10 ≡ ascii "10: wrong type: no link goes there, or the name is that of a system of another type\n"
+  pub ten : reasonLine 10 ≡ ascii "10: wrong type: no link goes there, or a system named is of another type or group\n"
   pub eleven : reasonLine 11 ≡ ascii "11: in use: it is enabled, or an enabled system hangs on it\n"
   pub twelve : reasonLine 12 ≡ ascii "12: ring: a system would hang on itself\n"
   pub thirteen : reasonLine 13 ≡ ascii "13: full: there are 16 systems already\n"

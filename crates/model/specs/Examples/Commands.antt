@@ -86,4 +86,4 @@ pub record OfLists : Type 0 where
       ∷ "Name=PI_BASE EndCoordinateSystem=HEXAPOD X=0.000000 Y=0.000000 Z=0.000000 U=0.000000 V=0.000000 W=0.000000 Steps=0 \n"
       ∷ "Name=PI_LEVELLING EndCoordinateSystem=HEXAPOD X=0.000000 Y=0.000000 Z=0.000000 U=0.000000 V=0.000000 W=0.000000 Steps=0 \n"
       ∷ "Name=B EndCoordinateSystem=HEXAPOD X=0.000000 Y=0.000000 Z=0.000000 U=90.000000 V=0.000000 W=0.000000 Steps=1\n" ∷ [])
-      ∷ "KLT? B" ⇒ replies "Name=B EndCoordinateSystem=HEXAPOD X=0.000000 Y=0.000000 Z=0.000000 U=90.000000 V=0.000000 W=0.000000 Steps=1\n" ∷ "KLT? B B" ⇒ number 5 ∷ [])
+      ∷ "KLT? B" ⇒ replies "Name=B EndCoordinateSystem=HEXAPOD X=0.000000 Y=0.000000 Z=0.000000 U=90.000000 V=0.000000 W=0.000000 Steps=1\n" ∷ [])

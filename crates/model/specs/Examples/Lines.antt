@@ -18,7 +18,7 @@ pub record OfLines : Type 0 where
   -- [Error 5] as many words as the command has, no fewer and no more
   pub counts : Session (
       "KSD A" ⇒ taken ∷ "KRM" ⇒ number 5 ∷ "KRM A A" ⇒ number 5 ∷ "KEN" ⇒ number 5 ∷ "KEN A A" ⇒ number 5 ∷ "KCP A" ⇒ number 5 ∷ "KCP A B C" ⇒ number 5
-      ∷ "KLN A" ⇒ number 5 ∷ "KLN A ZERO ZERO" ⇒ number 5 ∷ "KLS? A" ⇒ number 5 ∷ "KLN? A" ⇒ number 5 ∷ "KLT? A A" ⇒ number 5 ∷ "ERR? 0" ⇒ number 5
+      ∷ "KLN A" ⇒ number 5 ∷ "KLN A ZERO ZERO" ⇒ number 5 ∷ "KLS? A" ⇒ number 5 ∷ "KLN? A" ⇒ number 5 ∷ "KLT? A A A" ⇒ number 5 ∷ "ERR? 0" ⇒ number 5
       ∷ "RPA" ⇒ number 5 ∷ "DPA" ⇒ number 5 ∷ "DPA SKS SKS" ⇒ number 5 ∷ "CCL" ⇒ number 5 ∷ "CCL 1 ADVANCED 1" ⇒ number 5 ∷ [])
   -- [A line] names: 1 to 16 bytes, letters, digits and underscore, a letter first
   pub names : Session (

@@ -1,10 +1,12 @@
 use Prim.Native.Nat.{ℕ, _-_, _≤_, _<_}
 use mathlib.Core.Path.{_≡_, sym, ap, _∙_}
+use mathlib.Core.Logic.{⊎-elim}
 use native.Mathlib.Omega.{arith}
 use Rattle.model.specs.Limits.{maxSystems}
 use Rattle.chains.specs.Frames.{framed}
-use Rattle.chains.specs.Walk.{Walk, walked}
-use Rattle.chains.proofs.Reaching.{UserPlace, walked-fixed, in-preds, steps-link, enough-on, can-link, walked-on, few-steps}
+use Rattle.pose.proofs.Bounds.{within-origin}
+use Rattle.chains.specs.Walk.{farthest, Walk, walkOf, walked, atFixed, onward}
+use Rattle.chains.proofs.Reaching.{UserPlace, walked-fixed, in-preds, steps-link, enough-on, can-link, walked-on, few-steps, from-fixed, to-fixed}
 use borrow.Fn.Kinds.{In}
 use borrow.Fn.PlainCycle.{Measures, is, falls, and}
 use Rattle.chains.proofs.frames.reach.Reads as reach
@@ -25,7 +27,7 @@ reach-at t = and 3 reach-kinds.ps (is 3 reach-kinds.ps μ-reach t) reach.Pre
 abbrev reach-below : ℕ → In 3 reach-kinds.ps
 reach-below t = and 3 reach-kinds.ps (falls 3 reach-kinds.ps _<_ μ-reach t) reach.Pre
 
--- what is reached at the place has few enough steps
+-- what a walk reaches at the place has few enough steps
 few : (t : ℕ) (s : reach-lts.Start (
   unmoved-reads.Asked,
   unmoved-reads.Learnt,
@@ -60,8 +62,14 @@ reach-returns : (t : ℕ) → reach-lts.Need-returns (
 reach-returns t c =
     let s = c .before .before .before in
     let a = s .args in
-    let e = s .pre .1 .1 .0 ∙ ap (walked (framed (a .offsets .now) (a .turns .now) (a .preds .now))) (sym (c .if1 .taken)) in
-    (e, few t s e)
+    let l = framed (a .offsets .now) (a .turns .now) (a .preds .now) in
+    let w = walkOf (a .known) in
+    let here : w ≡ walked l (a .stop) → w ≡ walked l (a .place) = λ e. e ∙ ap (walked l) (sym (c .if1 .taken)) in
+    record {
+      walk = here;
+      few = λ e. few t s (here e);
+      on = λ z. sym (to-fixed l w) ∙ ap (λ q. onward w (walked l q)) (sym (c .if1 .taken ∙ z));
+    }
 
 reach-unmoved-requires : (t : ℕ) → reach-lts.Need-unmoved-requires (
   unmoved-reads.Asked,
@@ -84,8 +92,12 @@ reach-returns-2 : (t : ℕ) → reach-lts.Need-returns-2 (
 reach-returns-2 t c =
     let s = c .before .before .before .before .before in
     let a = s .args in
-    let e = c .unmoved .ensures ∙ walked-fixed (framed (a .offsets .now) (a .turns .now) (a .preds .now)) (a .place) (c .before .if2 .taken) in
-    (e, few t s e)
+    let fixed = c .unmoved .ensures ∙ walked-fixed (framed (a .offsets .now) (a .turns .now) (a .preds .now)) (a .place) (c .before .if2 .taken) in
+    record {
+      walk = λ e. fixed;
+      few = λ e. few t s fixed;
+      on = λ z. absurd (c .before .before .if1 .left (c .before .if2 .taken ∙ sym z));
+    }
 
 reach-sub-i : (t : ℕ) → reach-lts.Need-sub-i (
   unmoved-reads.Asked,
@@ -156,7 +168,12 @@ reach-linked-requires : (t : ℕ) → reach-lts.Need-linked-requires (
 ) (reach-at t) reach.Post
 reach-linked-requires t c κs =
     let s = c .before .before .before .before .before .before in
-    can-link (user t s (c .before .before .if2 .left)) (c .reach .ensures .0)
+    let u = user t s (c .before .before .if2 .left) in
+    let r = c .reach .ensures in
+    ⊎-elim
+    (λ e. can-link u atFixed (r .walk e ∙ sym (from-fixed _)) (record { at = within-origin farthest; steps = omega arith }))
+    (λ k. can-link u (walkOf (s .args .known)) (r .on (k .0)) (k .1))
+    (s .pre .1 .1 .0)
 
 reach-returns-3 : (t : ℕ) → reach-lts.Need-returns-3 (
   unmoved-reads.Asked,
@@ -169,8 +186,17 @@ reach-returns-3 : (t : ℕ) → reach-lts.Need-returns-3 (
 reach-returns-3 t c =
     let r = c .before in
     let s = r .before .before .before .before .before .before in
-    let e = walked-on (user t s (r .before .before .if2 .left)) (r .reach .ensures .0) (c .linked .ensures) in
-    (e, few t s e)
+    let u = user t s (r .before .before .if2 .left) in
+    let k = r .reach .ensures in
+    let a = s .args in
+    let l = framed (a .offsets .now) (a .turns .now) (a .preds .now) in
+    let here : walkOf (a .known) ≡ walked l (a .stop) → walkOf (c .linked .result) ≡ walked l (a .place) =
+    λ e. walked-on u atFixed (k .walk e ∙ sym (from-fixed _)) (c .linked .ensures) ∙ from-fixed _ in
+    record {
+      walk = here;
+      few = λ e. few t s (here e);
+      on = λ z. walked-on u (walkOf (s .args .known)) (k .on z) (c .linked .ensures);
+    }
 
 pub +reach-spec : {M : Type 1} → statement M
 +reach-spec = close μ-reach λ t. reach-lts.spec (

@@ -6,7 +6,7 @@ use Rattle.commands.proofs.conditions.wrong_pred.Tie as tie
 
 returns : tie.Need-returns
 unfolding wrongPred
-returns c = rw (c .before .before .if1 .taken, c .before .order-of .ensures, c .order-of2 .ensures)
+returns c = rw (c .before .if1 .taken, c .same-group .ensures)
 
 returns-2 : tie.Need-returns-2
 unfolding wrongPred
@@ -16,7 +16,6 @@ pub wrong-pred-spec : {M : Type 1} → statement M
 wrong-pred-spec =
     tie.close
     (tie.spec
-    (λ c κs. search needs)
     (λ c κs. search needs)
     returns
     (λ c κs. search needs)

@@ -40,6 +40,12 @@ resultant-line-requires c κs =
     let start = c .before .before .before .before .before .before .before in
     (start .pre .0, (start .pre .1 .1, named-within (start .args .m) _ _ (c .before .subject-of .ensures)))
 
+relative-line-requires : tie.Need-relative-line-requires
+relative-line-requires c κs =
+    let start = c .before .before .before .before .before .before .before in
+    let seen = c .before .look6 .ensures in
+    (start .pre .0, (start .pre .1 .1, (named-within (start .args .m) _ _ (seen .first), named-within (start .args .m) _ _ (seen .second))))
+
 returns : tie.Need-returns
 unfolding asksToSave
 returns c s volatile level error = rw (c .before .before .enum-told .given .1) (refusal-taken s _ _ (c .silent .ensures) _ _ _ refl _ (obeyed-unknown _ _) (c .before .refused .ensures))
@@ -110,7 +116,11 @@ returns-17 c s volatile level error = rw (c .before .before .before .before .bef
 
 returns-18 : tie.Need-returns-18
 unfolding asksToSave
-returns-18 c s volatile level error = rw (c .before .before .before .before .enum-told16 .given .1) (c .before .before .error-line .ensures s error)
+returns-18 c s volatile level error = rw (c .before .before .before .before .before .enum-told16 .given .1) (c .before .before .relative-line .ensures s _ _ volatile (c .before .before .before .before .look6 .ensures))
+
+returns-19 : tie.Need-returns-19
+unfolding asksToSave
+returns-19 c s volatile level error = rw (c .before .before .before .before .enum-told17 .given .1) (c .before .before .error-line .ensures s error)
 
 pub carry-out-spec : {M : Type 1} → statement M
 carry-out-spec =
@@ -170,6 +180,9 @@ carry-out-spec =
     resultant-line-requires
     (λ c. search needs)
     (λ c κs. search needs)
+    relative-line-requires
+    (λ c. search needs)
+    (λ c κs. search needs)
     returns
     returns-2
     returns-3
@@ -193,4 +206,6 @@ carry-out-spec =
     (λ c. search needs)
     returns-17
     (λ c. search needs)
-    returns-18)
+    returns-18
+    (λ c. search needs)
+    returns-19)

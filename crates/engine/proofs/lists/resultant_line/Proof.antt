@@ -5,6 +5,7 @@ use Rattle.model.specs.declared.Group.the-variants.{Operating}
 use Rattle.model.specs.Machine.{answered}
 use Rattle.model.specs.Stored.{memoryOf, stateOf}
 use Rattle.commands.specs.Subject.{Tells}
+use Rattle.engine.specs.declared.lists.End.the-variants.{OfChain}
 use Rattle.engine.specs.Answers.{oneLine}
 use Rattle.engine.proofs.OneLine.{user-answers, fixed-answers, absent-answers}
 use Rattle.engine.proofs.Taking.{retold, refusal-taken}
@@ -17,7 +18,7 @@ returns c s n e t =
     let a = c .before .before .before .before .before .before .before .args in
     let told : Tells (memoryOf (s .volatile)) n (a .x) = rw e t in
     retold
-    (user-answers s n (a .x) told (a .reply .now) _ (c .before .before .before .before .enum-told .given .1) ∙ ap (λ (v : Memory). answered (stateOf s) (oneLine v Operating (a .x .place)) (a .reply .now)) e)
+    (user-answers s n (a .x) told (a .reply .now) _ (c .before .before .before .before .enum-told .given .1) ∙ ap (λ (v : Memory). answered (stateOf s) (oneLine v Operating (a .x .place) OfChain) (a .reply .now)) e)
     (c .before .before .one-line .ensures s)
 
 returns-2 : tie.Need-returns-2
@@ -26,7 +27,7 @@ returns-2 c s n e t =
     let told : Tells (memoryOf (s .volatile)) n (a .x) = rw e t in
     let g = c .before .before .before .before .before .found .given .0 .0 in
     retold
-    (fixed-answers s n (a .x) told (a .reply .now) _ (c .before .before .before .before .before .found .given .1) ∙ ap (λ (v : Memory). answered (stateOf s) (oneLine v g 0) (a .reply .now)) e)
+    (fixed-answers s n (a .x) told (a .reply .now) _ (c .before .before .before .before .before .found .given .1) ∙ ap (λ (v : Memory). answered (stateOf s) (oneLine v g 0 OfChain) (a .reply .now)) e)
     (c .before .before .one-line2 .ensures s)
 
 returns-3 : tie.Need-returns-3

@@ -4,18 +4,17 @@ use native.Mathlib.Omega.{arith}
 use lib.ListN.{length}
 use Rattle.model.specs.Kinds.{ofGroup}
 use Rattle.model.specs.Lists.{joined}
-use Rattle.model.specs.Reply.{decimal, sixValues}
 use Rattle.model.specs.Stored.{bytesOf}
-use Rattle.print.proofs.Laws.{wrote-then, wrote-end}
-use Rattle.reply.specs.Lines.{resultantText}
+use Rattle.print.proofs.Laws.{wrote-then}
+use Rattle.reply.specs.Lines.{poseText, resultantText}
 use Rattle.reply.proofs.LineLaws.{length-resultant}
 use borrow.Author.Needs.{needs}
 use Rattle.reply.proofs.line.put_resultant.Statement.{statement}
 use Rattle.reply.proofs.line.put_resultant.Tie as tie
 
-long : (s : tie.Start) → length (resultantText (bytesOf (s .args .name)) (s .args .g) (s .args .t) (s .args .r) (s .args .steps))
-    ≡ 33 + length (bytesOf (s .args .name)) + length (ofGroup (s .args .g) .end) + length (sixValues (s .args .t) (s .args .r)) + length (decimal (s .args .steps))
-long s = length-resultant (bytesOf (s .args .name)) (s .args .g) (s .args .t) (s .args .r) (s .args .steps)
+long : (s : tie.Start) → length (resultantText (bytesOf (s .args .name)) (ofGroup (s .args .g) .end) (s .args .t) (s .args .shown) (s .args .steps))
+    ≡ 26 + length (bytesOf (s .args .name)) + length (ofGroup (s .args .g) .end) + length (poseText (s .args .t) (s .args .shown) (s .args .steps))
+long s = length-resultant (bytesOf (s .args .name)) (ofGroup (s .args .g) .end) (s .args .t) (s .args .shown) (s .args .steps)
 
 put-text-requires : tie.Need-put-text-requires
 put-text-requires c κs = omega (arith, long (c .before .before .before))
@@ -29,27 +28,19 @@ put-text-requires-2 c κs = omega (arith, long (c .before .before .before .befor
 put-end-requires : tie.Need-put-end-requires
 put-end-requires c κs = omega (arith, long (c .before .before .before .before .before .before .before .before .before .before .before .before .before .before .before .before))
 
-put-six-values-requires : tie.Need-put-six-values-requires
-put-six-values-requires c κs = let s = c .before .before .before .before .before .before .before .before .before .before .before .before .before .before .before .before .before .before .before .before in (s .pre .1, s .pre .2, omega (arith, long s))
-
-put-text-requires-3 : tie.Need-put-text-requires-3
-put-text-requires-3 c κs = omega (arith, long (c .before .before .before .before .before .before .before .before .before .before .before .before .before .before .before .before .before .before .before .before .before .before .before .before .before))
-
-put-decimal-requires : tie.Need-put-decimal-requires
-put-decimal-requires c κs = omega (arith, long (c .before .before .before .before .before .before .before .before .before .before .before .before .before .before .before .before .before .before .before .before .before .before .before .before .before .before .before .before .before))
+put-pose-requires : tie.Need-put-pose-requires
+put-pose-requires c κs = let s = c .before .before .before .before .before .before .before .before .before .before .before .before .before .before .before .before .before .before .before .before in (s .pre .1, s .pre .2, omega (arith, long s))
 
 returns : tie.Need-returns
-unfolding resultantText joined
+unfolding resultantText poseText joined
 returns c =
-    let d = c .before .before in
-    let t = d .before .before .before .before in
-    let v = t .before .before .before .before .before in
+    let v = c .before .before in
     let e = v .before .before .before .before in
     let h = e .before .before .before .before in
     let n = h .before .before .before .before .before in
     let a = n .before .before .before .before in
     wrote-then (a .put-text .ensures) (wrote-then (n .put-name .ensures) (wrote-then (h .put-text2 .ensures)
-    (wrote-then (e .put-end .ensures) (wrote-then (v .put-six-values .ensures) (wrote-then (t .put-text3 .ensures) (wrote-end (d .put-decimal .ensures)))))))
+    (wrote-then (e .put-end .ensures) (v .put-pose .ensures))))
 
 pub put-resultant-spec : {M : Type 1} → statement M
 put-resultant-spec =
@@ -61,9 +52,6 @@ put-resultant-spec =
     (λ c. search needs)
     put-text-requires-2
     put-end-requires
-    put-six-values-requires
-    (λ c. search needs)
-    put-text-requires-3
-    put-decimal-requires
+    put-pose-requires
     (λ c. search needs)
     returns)

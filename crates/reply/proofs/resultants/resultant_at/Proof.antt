@@ -1,13 +1,15 @@
 use Prim.Native.Nat.{ℕ, suc, _+_, _≤_, _<_}
 use mathlib.Core.Path.{_≡_, refl, sym, ap, _∙_}
 use mathlib.Core.List.{List, []}
+use mathlib.Core.Logic.{inl}
 use native.Mathlib.Omega.{arith}
-use lib.ListN.{length, getD, length-append}
+use lib.ListN.{length, take, getD, length-append}
 use Rattle.model.specs.Memory.{fixedRef, userRef}
 use Rattle.model.specs.Reply.{listing, resultantLine}
 use Rattle.model.specs.Stored.{bytesOf, systemsOf, memoryOf}
 use Rattle.model.proofs.Memories.Fine.{fine-of}
-use Rattle.chains.specs.Walk.{walkOf}
+use Rattle.chains.specs.Frames.{framed}
+use Rattle.chains.specs.Walk.{walkOf, walked}
 use Rattle.chains.proofs.Copies.{length-mapped, unset}
 use Rattle.chains.proofs.Reaching.{walked-fixed}
 use Rattle.chains.proofs.Ready.{walkable}
@@ -81,6 +83,9 @@ start c = c .before .before .before .before .before .before .before .before .bef
 abbrev slotted : tie.After-reach → tie.After-slot
 slotted c = c .before .before .before .before .before .before
 
+reached : (c : tie.After-reach) → walkOf (c .reach .result) ≡ walked (framed (slotted c .before .before .before .before .frames-of .result .offsets) (slotted c .before .before .before .before .frames-of .result .turns) (take (start c .args .t1 .count) (slotted c .before .before .before .before .before .links-of .result .preds))) (start c .args .place)
+reached c = c .reach .ensures .walk (c .before .before .before .before .unmoved2 .ensures ∙ walked-fixed _ 0 refl)
+
 user : (c : tie.After-group-of) → let r = c .before .before in text (start r) ≡ reachedText (bytesOf (getD (start r .args .t1 .systems) (slotted r .slot .result) unset .name)) (c .group-of .result) (walkOf (r .reach .result))
 user c =
     let r = c .before .before in
@@ -88,7 +93,7 @@ user c =
     let k = slotted r in
     let l = systemsOf (s .args .t1) in
     ap (resultantLine l) (ref-user l (s .args .g) (s .args .place) (k .before .before .before .before .before .before .if1 .left) ∙ ap (λ (i : ℕ). userRef l (suc i)) (sym (k .slot .ensures)))
-    ∙ rw (c .group-of .ensures) (reached-line (flat (k .before)) (slot-is k .0) (slot-is k .1) (r .reach .ensures .0))
+    ∙ rw (c .group-of .ensures) (reached-line (flat (k .before)) (slot-is k .0) (slot-is k .1) (reached r))
 
 element-copy-out-s : tie.Need-element-copy-out-s
 element-copy-out-s c = slot-is c .2
@@ -102,7 +107,7 @@ slice-aggregate-reach-3 c = taken (flat (c .before .before .before .before .befo
 reach-requires : tie.Need-reach-requires
 reach-requires c κs =
     let f = flat (c .before .before .before .before .before .before) in
-    (can-walk f, (c .before .before .before .unmoved2 .ensures ∙ walked-fixed _ 0 refl, deep-enough f _ (c .before .before .before .before .before .before .before .before .before .before .before .before .before .pre .1 .1)))
+    (can-walk f, (inl (c .before .before .before .unmoved2 .ensures ∙ walked-fixed _ 0 refl), deep-enough f _ (c .before .before .before .before .before .before .before .before .before .before .before .before .before .pre .1 .1)))
 
 -- as the writer of a line has it, for a place that is a user system's
 shown : (c : tie.After-group-of) → let r = c .before .before in text (start r)
@@ -114,7 +119,7 @@ put-line-requires-2 c κs =
     let r = c .before .before in
     let s = start r in
     let k = slot-is (slotted r) in (
-      λ o. record { name-fits = name-fits (s .args .t1) (s .pre .0 .shape) (long s) (slotted r .slot .result) (k .1); near = reached-within (flat (slotted r .before)) (k .0) (k .1) (r .reach .ensures .0) },
+      λ o. record { name-fits = name-fits (s .args .t1) (s .pre .0 .shape) (long s) (slotted r .slot .result) (k .1); near = reached-within (flat (slotted r .before)) (k .0) (k .1) (reached r) },
       omega (arith, fits s, ap length (shown c)),
     )
 

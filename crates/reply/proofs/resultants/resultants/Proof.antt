@@ -1,6 +1,7 @@
 use Prim.Native.Nat.{suc, _+_, _-_, _<_}
 use mathlib.Core.Path.{_≡_, refl, sym, _∙_}
 use mathlib.Core.List.{[]}
+use mathlib.Core.Logic.{inl}
 use native.Mathlib.Numerals.{add-one}
 use native.Mathlib.Omega.{arith}
 use lib.ListN.{length, take, drop, getD}
@@ -9,7 +10,7 @@ use Rattle.model.specs.Memory.{fixedRef}
 use Rattle.model.specs.Reply.{resultantLine}
 use Rattle.model.specs.Stored.{bytesOf}
 use Rattle.chains.specs.Frames.{framed}
-use Rattle.chains.specs.Walk.{walkOf}
+use Rattle.chains.specs.Walk.{walkOf, walked}
 use Rattle.chains.proofs.Copies.{length-mapped, unset}
 use Rattle.print.specs.Over.{Wrote}
 use Rattle.reply.specs.Lines.{further, atFixed}
@@ -92,11 +93,19 @@ reach-requires : tie.Need-reach-requires Inv-loop μ-loop
 reach-requires c κs =
     let l = c .before .before .before .before in
     let f = flat l in
-    (can-walk f, (l .before .loop .inv .1 .each _ (c .before .reached-before .ensures), deep-enough f _ (omega (arith, l .loop-test .taken))))
+    (can-walk f, (inl (l .before .loop .inv .1 .each _ (c .before .reached-before .ensures)), deep-enough f _ (omega (arith, l .loop-test .taken))))
 
 -- the turn of the loop, seen from its walk
 abbrev turn : tie.After-reach Inv-loop μ-loop → tie.In-loop Inv-loop μ-loop
 turn c = c .before .before .before .before .before
+
+-- what the walk reached
+reached : (c : tie.After-reach Inv-loop μ-loop) →
+    let l = turn c in
+    let frames = l .before .before .before .before .before .before .before .before .before .before .before .before .before .before .frames-of .result in
+    let preds = l .before .before .before .before .before .before .before .before .before .before .before .before .before .before .before .links-of .result .preds in
+    walkOf (c .reach .result) ≡ walked (framed (frames .offsets) (frames .turns) (take (start l .args .t1 .count) preds)) (l .before .loop .i + 1)
+reached c = c .reach .ensures .walk (turn c .before .loop .inv .1 .each _ (c .before .before .reached-before .ensures))
 
 add-known : tie.Need-add-known Inv-loop μ-loop
 add-known c = record { fits = omega (arith, within (turn c)) }
@@ -118,7 +127,7 @@ line-is : (c : tie.After-group-of Inv-loop μ-loop) → let l = turn (c .before 
     lineAt resultantLine m (suc (l .before .loop .i)) ≡ atFixed (l .before .loop .i + 1) (resultantLine [] (fixedRef (c .group-of .result))) (reachedText (bytesOf (getD (m .systems) (l .before .loop .i) unset .name)) (c .group-of .result) (walkOf (c .before .before .reach .result)))
 line-is c =
     let l = turn (c .before .before) in
-    rw (c .group-of .ensures) (reached-line (flat l) (add-one (l .before .loop .i)) (l .loop-test .taken) (c .before .before .reach .ensures .0)) ∙ sym (at-user (l .before .loop .i + 1) _ _ (λ e. omega arith))
+    rw (c .group-of .ensures) (reached-line (flat l) (add-one (l .before .loop .i)) (l .loop-test .taken) (reached (c .before .before))) ∙ sym (at-user (l .before .loop .i + 1) _ _ (λ e. omega arith))
 
 add-put-further-line : tie.Need-add-put-further-line Inv-loop μ-loop
 add-put-further-line c = record { fits = omega (arith, within (turn (c .before .before))) }
@@ -128,7 +137,7 @@ put-further-line-requires c κs =
     let l = turn (c .before .before) in
     let s = start l in
     let h = l .loop-test .taken in (
-      λ o. record { name-fits = name-fits (s .args .t1) (s .pre .0 .shape) (long s) (l .before .loop .i) h; near = reached-within (flat l) (add-one (l .before .loop .i)) h (c .before .before .reach .ensures .0) },
+      λ o. record { name-fits = name-fits (s .args .t1) (s .pre .0 .shape) (long s) (l .before .loop .i) h; near = reached-within (flat l) (add-one (l .before .loop .i)) h (reached (c .before .before)) },
       rw (line-is c) at (going-room (l .before .loop .inv .0) h),
     )
 
@@ -155,7 +164,7 @@ loop-again c =
     let r = c .before .before .before .before .before in
     let l = turn r in
     let k = l .before .loop .inv in
-    (going-turn (k .0) (l .loop-test .taken) (wrote (c .before .before)), kept-on (k .1) (within l) (r .reach .ensures .0))
+    (going-turn (k .0) (l .loop-test .taken) (wrote (c .before .before)), kept-on (k .1) (within l) (reached r))
 
 put-byte-requires : tie.Need-put-byte-requires Inv-loop μ-loop
 put-byte-requires c κs = going-within (c .before .before .loop .inv .0)
