@@ -130,11 +130,13 @@ module _ {xs : List ℤ} {ts ps : List ℕ} {q i : ℕ} (u : UserPlace xs ts ps 
         ∙ (λ d. record { pose = follow-assoc (base .pose) (resultant l p) own d; steps = n d })
         ∙ ap (onward base) walked-link
 
--- ---- bases: from the fixed system itself
+-- ---- bases
+
+-- a walk from the fixed system itself
 pub from-fixed : (w : Walk) → onward atFixed w ≡ w
 from-fixed w = let n : 0 + w .steps ≡ w .steps = omega arith in λ d. record { pose = neutral-before (w .pose) d; steps = n d }
 
--- to the fixed system
+-- a walk to the fixed system
 pub to-fixed : (l : List System) (base : Walk) → onward base (walked l 0) ≡ base
 to-fixed l base =
     let n : base .steps + 0 ≡ base .steps = omega arith in

@@ -19,7 +19,7 @@ returned r b = record { state = r .state; number = r .number; count = r .length;
 abbrev pub answeredOf : Stepped → List ℕ → Answered
 answeredOf r b = standsFor (returned r b)
 
--- the place of that end; a chain ends at place 0
+-- the place of an end; a chain ends at place 0
 abbrev pub endPlace : End → ℕ
 endPlace OfChain = 0
 endPlace (At from) = from
