@@ -11,14 +11,14 @@ use Rattle.model.specs.Lists.{joined}
 use Rattle.model.specs.Limits.{maxSystems, quarterTurn, mostTurns, offsetLimit, bufferLimit}
 use Rattle.model.specs.Kinds.{ofKind, ofGroup}
 use Rattle.model.specs.Pose.{Pose, shown}
-use Rattle.model.specs.Memory.{System, Memory, Ref, fixedRef, userRef, systemAt, nameOf, typeOf, predName, named}
+use Rattle.model.specs.Memory.{System, Ref, fixedRef, userRef, systemAt, nameOf, typeOf, predName, named}
 use Rattle.model.specs.Chain.{steps, resultant, poseIn}
 use Rattle.model.specs.WellFormed.{turnsFine}
 use Rattle.model.specs.Use.{operatingPlaces, inGroup, enabledRefs}
 use Rattle.model.specs.Request.{enabledOnes, systemsAll, links, resultants, resultantOf, resultantIn}
 use Rattle.model.specs.Reply.{value, degrees, sixValues, listing, everySystem, enabledLine, linkLine, systemLine, poseLine, resultantLine, relativeLine, listed}
 use Rattle.model.proofs.Memories.Fine.{Systems, own-of, turns-of, fine-of, blank-beyond}
-use Rattle.model.proofs.Memories.Named.{named-place, place-within}
+use Rattle.model.proofs.Memories.Named.{named-within}
 use Rattle.model.proofs.Words.{legalName-short}
 use Rattle.pose.specs.Poses.{Within}
 use Rattle.pose.proofs.Bounds.{within-more}
@@ -176,9 +176,6 @@ refs-short line e h = go (e .operating)
     go : (part : OperatingPart) → length (listing (map line (map (inGroup Operating) (operatingPlaces part) ++ (o ∷ v ∷ [])))) ≤ bufferLimit
     go (Single p) = simp (length-append, append-nil) (omega (arith, h (inGroup Operating p), h o, h v))
     go (Pair w t) = simp (length-append, append-nil) (omega (arith, h (inGroup Operating w), h (inGroup Operating t), h o, h v))
-
-named-within : (m : Memory) (a : List ℕ) → named m a .place ≤ length (m .systems)
-named-within m a = rw (named-place m a) (place-within (m .systems) a)
 
 pub listed-short : RepliesFit
 unfolding listed listing

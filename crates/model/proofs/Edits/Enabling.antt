@@ -12,7 +12,7 @@ use Rattle.model.specs.Memory.{System, Memory, Ref, systemAt, named}
 use Rattle.model.specs.Effects.{workHalf, toolHalf, enabledUser, enabledFixed, enabling}
 use Rattle.model.proofs.Basics.{either}
 use Rattle.model.proofs.Memories.Fine.{Placed, PartPlaced, EnabledPlaced, Fine}
-use Rattle.model.proofs.Memories.Named.{named-place, place-within}
+use Rattle.model.proofs.Memories.Named.{named-within}
 
 module _ (l : List System) where
   -- the fixed system may stand for every type
@@ -62,5 +62,5 @@ module _ (m : Memory) (fine : Fine m) (level : ℕ) where
       record {
         systems = fine .systems;
         ringless = fine .ringless;
-        enabled = enabling-placed (named m a) (rw (named-place m a) (place-within (m .systems) a));
+        enabled = enabling-placed (named m a) (named-within m a);
       }

@@ -114,6 +114,9 @@ module _ (m : Memory) (n : List ℕ) where
       (λ u. rw (find-fixed m n u) (fixed-place groups n ∙ sym (user-none m n u)))
       (either (isUser m n))
 
+  pub named-within : named m n .place ≤ length (m .systems)
+  named-within = rw named-place (place-within (m .systems) n)
+
   -- a system that is there, and whose name is not reserved, is a user system
   pub present-user : absent m n ≡ false → reserved n ≡ false → isUser m n ≡ true
   present-user a r =
