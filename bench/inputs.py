@@ -7,10 +7,10 @@ AXES = "XYZUVW"
 
 def value(axis, r, wrong=0.0):
     if r.random() < wrong:
-        return r.choice(["1000.000001", "-9999", "45", "360", "-1000.5"])
+        return r.choice(["2000.000001", "-9999", "45", "360", "-2000.5"])
     if axis in "XYZ":
-        return r.choice(["%d" % r.randint(-1000, 1000), "%d.%d" % (r.randint(-999, 999), r.randint(0, 999999)),
-                         "-0.5", "1000.000000"])
+        return r.choice(["%d" % r.randint(-2000, 2000), "%d.%d" % (r.randint(-1999, 1999), r.randint(0, 999999)),
+                         "-0.5", "2000.000000"])
     return r.choice(["0", "90", "180", "270", "-90", "-180", "-270", "90.000000"])
 
 
@@ -78,7 +78,7 @@ def one_seen(r, count):
 def refusals(r, count):
     yield from chain_of_sixteen(r)
     yield "KEN " + NAMES[15]
-    bad = ["FOO", "KSD", "KSD A X 1001", "KRM NONE", "KSD ZERO", "KSB B", "KLN N03 PI_BASE", "KLN N03 ZERO", "KSD NEW17",
+    bad = ["FOO", "KSD", "KSD A X 2001", "KRM NONE", "KSD ZERO", "KSB B", "KLN N03 PI_BASE", "KLN N03 ZERO", "KSD NEW17",
            "KSD N03 X 5 Y", "KEN", "KLT? 9", "RPA SKS", "", "KCP N15 N00", "x" * 121]
     yield from (bad[i % len(bad)] for i in range(count))
 
@@ -101,7 +101,7 @@ def word(r):
     if pick < 0.7:
         return value(r.choice(AXES), r)
     if pick < 0.8:
-        return r.choice(["0", "1", "ADVANCED", "SKS", "sks", "00", "-0", ".5", "5.", "10000", "9999", "1000.000001", "360", "45", "0090",
+        return r.choice(["0", "1", "ADVANCED", "SKS", "sks", "00", "-0", ".5", "5.", "10000", "9999", "2000.000001", "360", "45", "0090",
                          "1.2345678", "--1", "+5", "A" * 16, "A" * 17, "9A", "A-B", "_A", "A_9"])
     return r.choice(["KSD", "KEN", "x", "?", "~", "KLT?"])
 

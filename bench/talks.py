@@ -19,7 +19,7 @@ NOT_READ = b"ksbench: standard input cannot be read\n"
 WORDS = {3: b"unreadable", 4: b"no command", 5: b"malformed", 6: b"beyond", 7: b"absent", 8: b"reserved", 9: b"locked", 10: b"wrong type",
          11: b"in use", 12: b"ring", 13: b"full"}
 # Refused with each of the numbers 3 to 13, between lines that are accepted.
-REFUSED = b"\n".join([b"K" * 121, b"FOO", b"KSD", b"KSD A X 1001", b"KRM A", b"KSD ZERO", b"KSB B", b"KSD A", b"KSD B", b"KLN A PI_BASE", b"KLN A B", b"KEN A",
+REFUSED = b"\n".join([b"K" * 121, b"FOO", b"KSD", b"KSD A X 2001", b"KRM A", b"KSD ZERO", b"KSB B", b"KSD A", b"KSD B", b"KLN A PI_BASE", b"KLN A B", b"KEN A",
                       b"KRM B", b"KEN ZERO", b"KLN B A", b"WPA", b"WPA SKS SKS", b"ERR?"] + [b"KSD N%d" % n for n in range(15)] + [b"ERR?", b""])
 
 
@@ -49,7 +49,7 @@ def lines():
 def lockstep():
     """Each line is sent when the one before is answered, and behind each save the file is read before anything else is done."""
     at, image = folder()
-    rounds = [b"KSD A X %d Y -%d\nWPA SKS\n" % (n, n * n % 1000) for n in range(200)]
+    rounds = [b"KSD A X %d Y -%d\nWPA SKS\n" % (n, n * n % 2001) for n in range(200)]
     wanted = scripted(b"".join(rounds))[1]
     ksbench, found, told = started(image), [], b""
     for lines in rounds:

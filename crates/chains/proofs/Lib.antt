@@ -5,3 +5,4 @@ pub mod Same
 pub mod Laid
 pub mod Reaching
 pub mod Ready
+pub mod Sums

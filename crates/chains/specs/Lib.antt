@@ -2,3 +2,4 @@ pub mod Flat
 pub mod Searches
 pub mod Frames
 pub mod Walk
+pub mod Sums

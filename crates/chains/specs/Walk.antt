@@ -14,7 +14,7 @@ use Rattle.pose.specs.Poses.{Within, reach}
 use Rattle.chains.specs.declared.frames.Reached.{Reached}
 use Rattle.chains.specs.Frames.{offsetAt, turnsAt, framed}
 
--- how far off the origin a chain can lead: each link adds at most one own offset
+-- how far off the origin a chain can lead along an axis: each link adds at most one own offset
 abbrev pub farthest : ℕ
 farthest = maxSystems * offsetLimit
 

@@ -7,7 +7,7 @@ pub const MAX_SYSTEMS: usize = 16;
 pub const NAME_LIMIT: usize = 16;
 
 // An own offset, either way, in millionths of a millimetre.
-pub const OFFSET_LIMIT: u64 = 1000000000;
+pub const OFFSET_LIMIT: u64 = 2000000000;
 
 // Digits before a number's point.
 pub const WHOLE_DIGITS: u8 = 4;

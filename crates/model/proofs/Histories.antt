@@ -13,4 +13,5 @@ pub mod Looking  -- document 02 §2: the test for use stops when the name is fou
 pub mod Relative  -- document 02 §3: one frame seen from another
 pub mod Between  -- the same over stored states, and between systems in use
 pub mod Switched  -- document 02 §7: what the power switch brings back
+pub mod LongBench  -- document 02 §4: what was saved under the former limit
 pub mod Bench  -- the program of the bench: what goes where, and what the file holds

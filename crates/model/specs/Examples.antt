@@ -9,6 +9,7 @@ use Rattle.model.specs.Examples.Histories.{OfHistories}
 use Rattle.model.specs.Examples.Storage.{OfStorage}
 use Rattle.model.specs.Examples.Use.{OfUse}
 use Rattle.model.specs.Examples.Relative.{OfRelative}
+use Rattle.model.specs.Examples.LongBench.{OfLongBench}
 use Rattle.model.specs.Examples.Bench.{OfBench}
 pub mod Memories  -- "Memory and state", "Poses and chains"
 pub mod Lines  -- "A line"
@@ -19,6 +20,7 @@ pub mod Histories  -- "The two lists of demand 3", "ksrun"
 pub mod Storage  -- stored values
 pub mod Use  -- document 02 §2
 pub mod Relative  -- document 02 §3
+pub mod LongBench  -- document 02 §4
 pub mod Bench  -- ksbench
 
 pub record Examples : Type 0 where
@@ -33,4 +35,5 @@ pub record Examples : Type 0 where
   pub storage : OfStorage
   pub in-use : OfUse
   pub relative : OfRelative
+  pub long-bench : OfLongBench
   pub bench : OfBench

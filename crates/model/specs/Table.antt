@@ -26,9 +26,9 @@ pub record Table : Type 0 where
       ∷ "Name=A Type=KSD X=0.000000 Y=0.000000 Z=0.000000 U=0.000000 V=0.000000 W=270.000000\n" ∷ [])
   pub negative-angle-shown : then ("KSD A W -90" ∷ []) "KLT? A"
       ≡ replies "Name=A EndCoordinateSystem=ZERO X=0.000000 Y=0.000000 Z=0.000000 U=0.000000 V=0.000000 W=270.000000 Steps=1\n"
-  -- the offset limit, and the digits of a number
-  pub limit-taken : then [] "KSD A X 1000.000000" ≡ taken
-  pub beyond-limit : then [] "KSD A X 1000.000001" ≡ number 6
+  -- the offset limit, as document 02 §4 has it, and the digits of a number
+  pub limit-taken : then [] "KSD A X 2000.000000" ≡ taken
+  pub beyond-limit : then [] "KSD A X 2000.000001" ≡ number 6
   pub four-digits : then [] "KSD A X 9999" ≡ number 6
   pub five-digits : then [] "KSD A X 10000" ≡ number 5
   -- the sixteenth system is taken, the seventeenth is not

@@ -6,16 +6,16 @@ use mathlib.Core.Bool.{true}
 use mathlib.Core.Option.{some}
 use native.Mathlib.Nat.{mul-comm, mul-assoc, mul-one, add-mul, mod-one, mod-lt, mod-eq-of-lt, div-add-mod', add-mul-mod-self-right, mul-le-mul-right, pow-suc, one-le-pow}
 use native.Mathlib.Omega.{arith}
-use borrow.Author.Tests.{ne-eqb, le-leb}
-use lib.IntN.{pos, negsuc, negℤ}
+use borrow.Author.Tests.{ne-eqb, le-leb, leb-true}
+use lib.IntN.{pos, negsuc, negℤ, natAbs}
 use lib.ListN.{length}
-use Rattle.model.specs.Limits.{wholeDigits, decimals, million}
+use Rattle.model.specs.Limits.{offsetLimit, wholeDigits, decimals, million}
 use Rattle.model.specs.Lists.{all, pieces, ahead, joined}
 use Rattle.model.specs.Reply.{lastDigits, digitsOf, decimal, value}
-use Rattle.model.specs.Words.{digit, digits?, spelled, magnitude, positive, negative, number}
+use Rattle.model.specs.Words.{digit, digits?, spelled, magnitude, positive, negative, number, offset?}
 use Rattle.model.proofs.Basics.{true-false, and-split, and-join}
 use Rattle.model.proofs.Digits.{length-digits, digits-above, decimal-short}
-use Rattle.text.specs.Claims.{PrintedThenRead}
+use Rattle.text.specs.Claims.{PrintedThenRead, WholeRangeTyped}
 use Rattle.text.proofs.NumberLaws.{weigh, Cut, whole, more, cut}
 use Rattle.text.proofs.NumberRange.{digit-is}
 
@@ -135,3 +135,7 @@ number-value (negsuc n) h =
     let e : q * million + suc n % million ≡ suc n = omega arith in
     rw (append-nil (lastDigits decimals (suc n % million)))
     (number-negative (digitsOf q) q (suc n % million) (p .some-digit) (p .enough) (digits-above q) (omega arith) ∙ ap (λ (m : ℕ). some (negℤ (pos m))) e)
+
+pub whole-range-typed : WholeRangeTyped
+unfolding offset?
+whole-range-typed z e = number-value z (omega (arith, leb-true (natAbs z) offsetLimit e))

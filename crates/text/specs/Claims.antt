@@ -1,11 +1,12 @@
 -- What is claimed of the definitions here beside what the functions promise: read by a cursor and byte by byte, a line says what document 01 says.
 use Prim.Native.Nat.{ℕ, _<_}
 use mathlib.Core.Path.{_≡_}
+use mathlib.Core.Bool.{true}
 use mathlib.Core.List.{List, [], _∷_}
 use mathlib.Core.Option.{some}
 use lib.IntN.{ℤ, natAbs}
 use Rattle.model.specs.Reply.{value}
-use Rattle.model.specs.Words.{number}
+use Rattle.model.specs.Words.{number, offset?}
 use Rattle.text.specs.declared.numbers.Num.the-variants.{Start}
 use Rattle.text.specs.declared.words.Word.{Word}
 use Rattle.text.specs.Cursor.{nextWord, wordOf, wordsFrom}
@@ -27,3 +28,7 @@ ByteByByte = (w : List ℕ) → number w ≡ valued (folded Start w)
 -- [A line; Commands, values] a value that is printed is read back as itself, with up to four digits before the point
 abbrev pub PrintedThenRead : Type 0
 PrintedThenRead = (z : ℤ) → natAbs z < bound → number (value z) ≡ some z
+
+-- [02 §4] every offset within the limit can be typed, as it is printed: the wider limit too has four digits before the point
+abbrev pub WholeRangeTyped : Type 0
+WholeRangeTyped = (z : ℤ) → offset? z ≡ true → number (value z) ≡ some z

@@ -37,7 +37,7 @@ factory-fine : memoryFine factory ≡ true
 unfolding definitions-open
 factory-fine = refl
 
-started-fine : (m : Memory) → memoryFine m ≡ true → wellFormed (started m) ≡ true
+pub started-fine : (m : Memory) → memoryFine m ≡ true → wellFormed (started m) ≡ true
 started-fine m f = state-from (started m) (record { volatile = f; permanent = f; level = omega arith; error = refl })
 
 -- the condition of a rung that does not apply

@@ -67,7 +67,7 @@ start-permanent (image-start bytes m e) = ap (λ (o : Begun). o .state .permanen
 -- ---- a well-formed state brings back its permanent memory
 
 module _ (st : State) (w : wellFormed st ≡ true) where
-  permanent-back : BringsBack (st .permanent) st
+  pub permanent-back : BringsBack (st .permanent) st
   unfolding short
   permanent-back =
       record {
@@ -123,7 +123,7 @@ module _ (s : StoredState) (st : State) (h : viewOf s ≡ holds st) (m : Memory)
       ∙ ap (λ (x : Answered). ofBegun (startImage (take (x .count) (x .buffer)))) o
       ∙ ap ofBegun (back .starts b room ∙ back .restarts)
 
-  stored-back : StoredBringsBack m s
+  pub stored-back : StoredBringsBack m s
   stored-back =
       let e = view-is s st h .1 in
       record {

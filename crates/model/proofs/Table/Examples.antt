@@ -12,11 +12,13 @@ use Rattle.model.specs.Examples.Histories.{OfHistories}
 use Rattle.model.specs.Examples.Storage.{OfStorage}
 use Rattle.model.specs.Examples.Use.{OfUse}
 use Rattle.model.specs.Examples.Relative.{OfRelative}
+use Rattle.model.specs.Examples.LongBench.{OfLongBench}
 use Rattle.model.specs.Examples.Bench.{OfBench}
 use Rattle.model.specs.Demand.{changesEnabled, asksToEnable, noneTaken}
 use Rattle.model.specs.Histories.{steadyBy}
 use Rattle.model.specs.Checklist.{asksToSave}
 use Rattle.model.specs.PowerSwitch.{saves}
+use Rattle.model.specs.LongBench.{systemWithin, memoryWithin}
 use Rattle.model.specs.Reasons.{reason}
 use Rattle.model.specs.Bench.{storedActs, acted, ksbench, gathered, byteOf, poweredOn, fileAfter}
 use Rattle.model.proofs.Open.{definitions-open}
@@ -118,6 +120,21 @@ of-relative : OfRelative
 unfolding sessions-open
 of-relative = record { each-way = refl; joined = refl; fixed = refl; groups = refl; long-names = refl; numbers = refl }
 
+of-long-bench : OfLongBench
+unfolding sessions-open systemWithin memoryWithin
+of-long-bench =
+    record {
+      either-way = refl;
+      sixteen-deep = refl;
+      old-image = refl;
+      old = refl;
+      old-of-all = refl;
+      old-factory = refl;
+      not-old-above = refl;
+      not-old-below = refl;
+      new-image = refl;
+    }
+
 of-bench : OfBench
 unfolding sessions-open asksToSave saves reason storedActs acted ksbench gathered byteOf poweredOn fileAfter
 of-bench =
@@ -145,4 +162,4 @@ of-bench =
 
 pub examples : Examples
 examples =
-    record { memories = of-memories; poses = of-poses; lines = of-lines; commands = of-commands; lists = of-lists; numbers = of-numbers; images = of-images; histories = of-histories; storage = of-storage; in-use = of-use; relative = of-relative; bench = of-bench }
+    record { memories = of-memories; poses = of-poses; lines = of-lines; commands = of-commands; lists = of-lists; numbers = of-numbers; images = of-images; histories = of-histories; storage = of-storage; in-use = of-use; relative = of-relative; long-bench = of-long-bench; bench = of-bench }

@@ -68,12 +68,12 @@ pub record OfCommands : Type 0 where
 pub record OfLists : Type 0 where
   -- [lists, KLS?] own values of every type: six decimals, a minus below zero
   pub own-values : Session (
-      "CCL 1 ADVANCED" ⇒ taken ∷ "KSD D X 1000 Y -1000 Z 0.1" ⇒ taken ∷ "KST T Z -0.5 U 90" ⇒ taken ∷ "KSW W V 180" ⇒ taken ∷ "KSB B W -90" ⇒ taken ∷ "KLD L X 12.34" ⇒ taken
+      "CCL 1 ADVANCED" ⇒ taken ∷ "KSD D X 2000 Y -2000 Z 0.1" ⇒ taken ∷ "KST T Z -0.5 U 90" ⇒ taken ∷ "KSW W V 180" ⇒ taken ∷ "KSB B W -90" ⇒ taken ∷ "KLD L X 12.34" ⇒ taken
       ∷ "KLS?" ⇒ lists (
       "Name=ZERO Type=ZERO X=0.000000 Y=0.000000 Z=0.000000 U=0.000000 V=0.000000 W=0.000000 \n"
       ∷ "Name=PI_BASE Type=KSB(PI) X=0.000000 Y=0.000000 Z=0.000000 U=0.000000 V=0.000000 W=0.000000 \n"
       ∷ "Name=PI_LEVELLING Type=KLD(PI) X=0.000000 Y=0.000000 Z=0.000000 U=0.000000 V=0.000000 W=0.000000 \n"
-      ∷ "Name=D Type=KSD X=1000.000000 Y=-1000.000000 Z=0.100000 U=0.000000 V=0.000000 W=0.000000 \n"
+      ∷ "Name=D Type=KSD X=2000.000000 Y=-2000.000000 Z=0.100000 U=0.000000 V=0.000000 W=0.000000 \n"
       ∷ "Name=T Type=KST X=0.000000 Y=0.000000 Z=-0.500000 U=90.000000 V=0.000000 W=0.000000 \n"
       ∷ "Name=W Type=KSW X=0.000000 Y=0.000000 Z=0.000000 U=0.000000 V=180.000000 W=0.000000 \n"
       ∷ "Name=B Type=KSB(USER) X=0.000000 Y=0.000000 Z=0.000000 U=0.000000 V=0.000000 W=270.000000 \n"

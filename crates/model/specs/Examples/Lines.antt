@@ -33,9 +33,9 @@ pub record OfLines : Type 0 where
       "KSD A X 0001 Y -12.5 Z 0.000001" ⇒ taken
       ∷ "KLT? A" ⇒ replies "Name=A EndCoordinateSystem=ZERO X=1.000000 Y=-12.500000 Z=0.000001 U=0.000000 V=0.000000 W=0.000000 Steps=1\n"
       ∷ "KSD A X 00001" ⇒ number 5 ∷ "KSD A X 1." ⇒ number 5 ∷ "KSD A X .5" ⇒ number 5 ∷ "KSD A X 1.0000000" ⇒ number 5 ∷ "KSD A X 1.2.3" ⇒ number 5
-      ∷ "KSD A X -" ⇒ number 5 ∷ "KSD A X --1" ⇒ number 5 ∷ "KSD A X +1" ⇒ number 5 ∷ "KSD A X 1E1" ⇒ number 5 ∷ "KSD A X -1000.000001" ⇒ number 6
-      ∷ "KSD A Y 1001" ⇒ number 6 ∷ "KSD A Z 1000.000001" ⇒ number 6
-      ∷ "KSD A X -1000 Y 1000.000000" ⇒ taken ∷ "KSD A X -0 Y -0.000001" ⇒ taken
+      ∷ "KSD A X -" ⇒ number 5 ∷ "KSD A X --1" ⇒ number 5 ∷ "KSD A X +1" ⇒ number 5 ∷ "KSD A X 1E1" ⇒ number 5 ∷ "KSD A X -2000.000001" ⇒ number 6
+      ∷ "KSD A Y 2001" ⇒ number 6 ∷ "KSD A Z 2000.000001" ⇒ number 6
+      ∷ "KSD A X -2000 Y 2000.000000" ⇒ taken ∷ "KSD A X -0 Y -0.000001" ⇒ taken
       ∷ "KLT? A" ⇒ replies "Name=A EndCoordinateSystem=ZERO X=0.000000 Y=-0.000001 Z=0.000000 U=0.000000 V=0.000000 W=0.000000 Steps=1\n" ∷ [])
   -- [A line] pairs in any order, no axis twice; a malformed word gives 5 even after a value that is too large
   pub pairs : Session (

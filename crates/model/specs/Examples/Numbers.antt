@@ -61,7 +61,7 @@ pub record OfNumbers : Type 0 where
   pub three-first : answer (sent startFactory (127 ∷ [])) ≡ number 3
   pub first : Session (
       "CCL 1 ADVANCED" ⇒ taken ∷ "KSB B" ⇒ taken ∷ "KEN B" ⇒ taken ∷ "KSD A" ⇒ taken ∷ "KEN A" ⇒ taken ∷ "KSW W" ⇒ taken ∷ "CCL 0" ⇒ taken
-      ∷ "KSD ZERO X 1001" ⇒ number 6 ∷ "KRM HEXAPOD" ⇒ number 7 ∷ "KCP N ZERO" ⇒ number 7 ∷ "KLN ZERO N" ⇒ number 7 ∷ "KLN B N" ⇒ number 7
+      ∷ "KSD ZERO X 2001" ⇒ number 6 ∷ "KRM HEXAPOD" ⇒ number 7 ∷ "KCP N ZERO" ⇒ number 7 ∷ "KLN ZERO N" ⇒ number 7 ∷ "KLN B N" ⇒ number 7
       ∷ "KSB PI_BASE" ⇒ number 8 ∷ "KRM PI_BASE" ⇒ number 8 ∷ "KLN PI_BASE B" ⇒ number 8 ∷ "KCP PI_BASE B" ⇒ number 8 ∷ "KCP B ZERO" ⇒ number 8
       ∷ "KSB A" ⇒ number 9 ∷ "KLN B A" ⇒ number 9 ∷ "KCP B A" ⇒ number 9 ∷ "KSB B" ⇒ number 9 ∷ "KRM B" ⇒ number 9
       ∷ "KSW A" ⇒ number 10 ∷ "KLN A W" ⇒ number 10 ∷ "KCP W A" ⇒ number 10 ∷ "KLN A A" ⇒ number 11 ∷ "KCP A A" ⇒ number 11 ∷ [])
