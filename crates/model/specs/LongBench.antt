@@ -66,7 +66,7 @@ pub record StaysReadable (m : Memory) : Type 0 where
 pub record LongBench : Type 0 where
   -- under today's limit the definition above is today's
   pub today : (m : Memory) → memoryWithin offsetLimit m ≡ memoryFine m
-  -- well formed under the former limit are those of today with no offset past it: the limit went up, and nothing that fell below it was lost
+  -- well formed under the former limit are those of today that keep to it: all of them, and no others, so nothing was lost when the limit moved
   pub former : (m : Memory) → memoryWithin formerLimit m ≡ true ↔ ((memoryFine m ≡ true) × (allWithin formerLimit m ≡ true))
   -- what these were saved as
   pub old-images : (m : Memory) → memoryWithin formerLimit m ≡ true → StaysReadable m
