@@ -51,6 +51,16 @@ def removals(r, count):
         yield "KSD " + n
 
 
+def removals_saved(r, count):
+    """The same where sixteen systems are saved, eight of them in one chain that was enabled then: the other eight are removed and defined anew."""
+    yield from chain_of_sixteen(r)
+    yield from ("KLN N08 ZERO", "KEN N07", "WPA SKS", "KEN ZERO")
+    for i in range(count // 2):
+        n = NAMES[8 + r.randrange(8)]
+        yield "KRM " + n
+        yield "KSD " + n
+
+
 def enables(r, count):
     kinds = ["KSD", "KSW", "KST"]
     yield from ("%s %s" % (kinds[i % 3], n) for i, n in enumerate(NAMES))
@@ -85,6 +95,7 @@ def refusals(r, count):
 
 KINDS = {
     "definitions": (definitions, 400000), "links": (links, 400000), "copies": (copies, 400000), "removals": (removals, 400000),
+    "removals, saved": (removals_saved, 400000),
     "enables": (enables, 400000), "KEN?": (listing("KEN?"), 400000), "KLN?": (listing("KLN?"), 200000),
     "KLS?": (listing("KLS?"), 60000), "KLT?": (listing("KLT?"), 60000), "KLT? name": (one_resultant, 200000),
     "KLT? A B": (one_seen, 200000), "refusals": (refusals, 400000),
@@ -152,6 +163,26 @@ def random_lines(seed, count):
     r = random.Random(seed)
     for _ in range(count):
         yield random_line(r, SMALL_SET)
+
+
+def lines_around_saves(seed, count):
+    """Few names, and many saves, enablings and removals, so that names often are in use in one memory and not in the other, or mean another system there."""
+    r = random.Random(seed)
+    names = ["A", "B", "C", "D"]
+    weights = {"KRM": 30, "KEN": 20, "WPA": 10, "KSD": 8, "KSW": 4, "KST": 4, "KSB": 3, "KLD": 3, "KLN": 10, "KCP": 3, "RPA": 2, "DPA": 1, "CCL": 1, "ERR?": 1}
+    for _ in range(count):
+        c = r.choices(list(weights), weights.values())[0]
+        if c in ("WPA", "RPA", "DPA"):
+            c += " SKS"
+        elif c == "CCL":
+            c = r.choice(["CCL 0", "CCL 1 ADVANCED", "CCL 1 ADVANCED"])
+        elif c == "KEN":
+            c = "KEN " + r.choice(names + ["ZERO", "ZERO", "PI_BASE", "PI_LEVELLING"])
+        elif c in ("KLN", "KCP"):
+            c = "%s %s %s" % (c, r.choice(names), r.choice(names + ["ZERO"]))
+        elif c != "ERR?":
+            c += " " + r.choice(names)
+        yield c.encode()
 
 
 # ---- directives of ksscript

@@ -17,19 +17,34 @@ FACTORY = bytes.fromhex("010000000000")
 NOT_WRITTEN = b"ksbench: standard output cannot be written\n"
 NOT_READ = b"ksbench: standard input cannot be read\n"
 WORDS = {3: b"unreadable", 4: b"no command", 5: b"malformed", 6: b"beyond", 7: b"absent", 8: b"reserved", 9: b"locked", 10: b"wrong type",
-         11: b"in use", 12: b"ring", 13: b"full"}
-# Refused with each of the numbers 3 to 13, between lines that are accepted.
+         11: b"in use", 12: b"ring", 13: b"full", 20: b"needed"}
+# Refused with each of the numbers 3 to 13, between lines that are accepted; for 20 something must have been saved (NEEDED).
 REFUSED = b"\n".join([b"K" * 121, b"FOO", b"KSD", b"KSD A X 2001", b"KRM A", b"KSD ZERO", b"KSB B", b"KSD A", b"KSD B", b"KLN A PI_BASE", b"KLN A B", b"KEN A",
                       b"KRM B", b"KEN ZERO", b"KLN B A", b"WPA", b"WPA SKS SKS", b"ERR?"] + [b"KSD N%d" % n for n in range(15)] + [b"ERR?", b""])
 
 
+NEEDED = b"KSD A\nKEN A\nWPA SKS\nKEN ZERO\nKRM A\n"
+
+
 def refusals():
     told = answers(ksrun(), REFUSED)
-    expect("these lines are refused with each number", {int(n) for n in re.findall(rb"^E (\d+)$", told, re.M)}, set(WORDS))
+    expect("these lines are refused with each number", {int(n) for n in re.findall(rb"^E (\d+)$", told + answers(ksrun(), NEEDED), re.M)}, set(WORDS))
     at, image = folder()
     expect("refusals in a pipe: nothing is added, nothing saved", (run(image, text=REFUSED), look(at)), ((told, new(image)), {}))
     for line in (b"WPA", b"WPA SKS SKS", b"WPA 1", b"WPA SKS".ljust(121), b"XWPA SKS", b"\tWPA SKS", b"RPA SKS", b"DPA SKS"):
         expect("no save by %r" % line[:20], (run(image, text=b"KSD A\n" + line + b"\n")[1], look(at)), (new(image), {}))
+
+
+def needed():
+    """What the next start needs is not removed, in the run that saved it and in the next one, until a save sets it free."""
+    at, image = folder()
+    expect("saved in use: not removed", run(image, text=NEEDED + b"ERR?\n"), (b"E 20\n20\n", new(image)))
+    kept = held_in(at)
+    expect("nor after the next start", (run(image, text=b"KRM A\nKEN ZERO\nKRM A\n"), held_in(at)), ((b"E 11\nE 20\n", b""), kept))
+    expect("and that start has it enabled", run(image, text=b"KEN?\n")[0].splitlines()[0], b"A=KSD ")
+    expect("saved while it is not in use: removed", (run(image, text=b"KEN ZERO\nWPA SKS\nKRM A\n"), held_in(at)), ((b"", b""), {"image": image_of(b"KSD A\n")}))
+    expect("the start after that has it, and not in use", run(image, text=b"KRM A\nWPA SKS\n"), (b"", b""))
+    expect("saved without it: gone", held_in(at), {"image": FACTORY})
 
 
 def lines():
@@ -167,6 +182,9 @@ def terminals():
     shown = pasted(image, REFUSED)[0]
     expect("pasted at a terminal: each refusal has its reason behind it", first_words(shown), explained(told))
     expect("a reason in words", re.findall(rb"^11: .*$", shown, re.M), [b"11: in use: it is enabled, or an enabled system hangs on it"])
+    kept = folder()[1]
+    kept.write_bytes(FACTORY)
+    expect("the reason of 20", pasted(kept, NEEDED)[0], b"E 20\n20: needed: it was saved in use, and the next start has it so; WPA SKS once it is out of use frees it\n")
     reasons = b"".join(re.findall(rb"^\d+: .*\n", explained(told), re.M))
     got = pasted(image, REFUSED, stdout=False)
     expect("answers to a pipe: the reasons are at the terminal", (first_words(got[0]),) + got[1:], (reasons, told, None, 0))
@@ -207,5 +225,5 @@ def ends():
 
 
 def talks():
-    for part in (refusals, lines, lockstep, sessions, pieces, terminals, ends):
+    for part in (refusals, needed, lines, lockstep, sessions, pieces, terminals, ends):
         part()

@@ -15,7 +15,7 @@ use Rattle.model.specs.declared.System.{System as StoredSystem}
 use Rattle.model.specs.declared.Memory.{Memory as StoredMemory}
 use Rattle.model.specs.declared.State.{State as StoredState}
 use Rattle.model.specs.Memory.{Memory, State, isUser, placeNamed}
-use Rattle.model.specs.Request.{Change, asks, change, define, link, copy, remove}
+use Rattle.model.specs.Request.{Change, asks, change, define, link, copy}
 use Rattle.model.specs.Lists.{all, any}
 use Rattle.model.specs.Words.{reserved}
 use Rattle.model.specs.Refusals.{precedence, first, readingLadder, requestLadder, changeLadder, absent, noRoom}
@@ -36,7 +36,7 @@ use Rattle.commands.specs.declared.subject.Looked.{Looked}
 use Rattle.commands.specs.declared.changed.Deed.{Deed}
 use Rattle.commands.specs.declared.changed.Deed.the-variants.{SetError, Put}
 use Rattle.commands.specs.declared.changed.Decision.{Decision}
-use Rattle.commands.specs.Done.{done, Fits, saving, Decides}
+use Rattle.commands.specs.Done.{done, Fits, saving, removing, numberIn, Decides}
 use Rattle.commands.specs.Subject.{Sees}
 
 -- ---- the number decides
@@ -46,10 +46,10 @@ module _ (st : State) (c : Change) (n : ℕ) (e : n ≡ first (changeLadder st (
   unfolding obeyed readingLadder requestLadder
   judged-so = ap (λ (k : ℕ). judged st k (asks (change c)) b) (sym e)
 
-  obeyed-refused : (n ≡ 0 → ⊥) → obeyed st (asks (change c)) b ≡ refused (withError st n) n b
+  pub obeyed-refused : (n ≡ 0 → ⊥) → obeyed st (asks (change c)) b ≡ refused (withError st n) n b
   obeyed-refused z = judged-so ∙ judged-refused st n (asks (change c)) b (ne-eqb n 0 z)
 
-  obeyed-accepted : n ≡ 0 → obeyed st (asks (change c)) b ≡ answered (changed st (st .volatile) c) [] b
+  pub obeyed-accepted : n ≡ 0 → obeyed st (asks (change c)) b ≡ answered (changed st (st .volatile) c) [] b
   unfolding carriedOut next reply
   obeyed-accepted z = judged-so ∙ judged-taken st n (asks (change c)) b (eq-eqb n 0 z)
 
@@ -57,33 +57,39 @@ module _ (st : State) (c : Change) (n : ℕ) (e : n ≡ first (changeLadder st (
 abbrev Decided : ℕ → Deed → Decision → Type 0
 Decided n deed d = (d .number ≡ n) × (d .deed ≡ deed) × (nameShaped (d .system) ≡ true)
 
+-- where it removes nothing, its number stands, whatever was saved
+number-stands : (n : ℕ) (deed : Deed) (d : Decision) (p : Memory) → Decided n deed d → removing deed ≡ false → numberIn d p ≡ n
+number-stands n deed d p t r = rw (t .1, r) (t .0)
+
 module _ (s : StoredState) (c : Change) (n : ℕ) (e : n ≡ first (changeLadder (stateOf s) (memoryOf (s .volatile)) c)) where
   abbrev st : State
   st = stateOf s
 
   pub decides-refused : (d : Decision) → (n ≡ 0 → ⊥) → Decided n (SetError n) d → Decides s c d
-  unfolding done Fits saving
+  unfolding done Fits saving removing
   decides-refused d z p =
+      let stands = number-stands n (SetError n) d (st .permanent) p refl in
       record {
-        outcome = λ b. (λ i. record { state = done (p .1 i) (systemOf (d .system)) st; number = p .0 i; count = 0; buffer = b }) ∙ sym (obeyed-refused st c n e b z);
+        outcome = λ b. (λ i. record { state = done (p .1 i) (systemOf (d .system)) st; number = stands i; count = 0; buffer = b }) ∙ sym (obeyed-refused st c n e b z);
         doable = record { fits = rw (p .1, Fits) tt; named = p .2 };
-        saves = rw (p .0, p .1, ne-eqb n 0 z) refl;
+        saves = rw (stands, p .1, ne-eqb n 0 z) refl;
       }
 
   pub decides-accepted : (d : Decision) (deed : Deed) → n ≡ 0 → Decided 0 deed d → Fits deed (s .volatile) → done deed (systemOf (d .system)) st ≡ changed st (st .volatile) c →
-      saving deed ≡ asksToSave (asks (change c)) → Decides s c d
-  decides-accepted d deed z p f q t =
+      saving deed ≡ asksToSave (asks (change c)) → removing deed ≡ false → Decides s c d
+  decides-accepted d deed z p f q t r =
+      let stands = number-stands 0 deed d (st .permanent) p r in
       record {
-        outcome = λ b. (λ i. record { state = done (p .1 i) (systemOf (d .system)) st; number = p .0 i; count = 0; buffer = b }) ∙ ap (λ (t : State). answered t [] b) q ∙ sym (obeyed-accepted st c n e b z);
+        outcome = λ b. (λ i. record { state = done (p .1 i) (systemOf (d .system)) st; number = stands i; count = 0; buffer = b }) ∙ ap (λ (t : State). answered t [] b) q ∙ sym (obeyed-accepted st c n e b z);
         doable = record { fits = rw (p .1) f; named = p .2 };
-        saves = rw (p .0, p .1) t;
+        saves = rw (stands, p .1) t;
       }
 
   -- x is put at the place k
   pub decides-put : (d : Decision) (k : ℕ) (x : StoredSystem) → n ≡ 0 → d ≡ record { number = 0; deed = Put k; system = x } → nameShaped x ≡ true → (k ≤ maxSystems) × (k ≡ 0 → s .volatile .count < maxSystems) → withVolatile st (putAt (st .volatile) k (systemOf x)) ≡ changed st (st .volatile) c →
       asksToSave (asks (change c)) ≡ false → Decides s c d
-  unfolding done Fits saving
-  decides-put d k x z p named f q t = rw p (decides-accepted (record { number = 0; deed = Put k; system = x }) (Put k) z (refl, refl, named) f q (sym t))
+  unfolding done Fits saving removing
+  decides-put d k x z p named f q t = rw p (decides-accepted (record { number = 0; deed = Put k; system = x }) (Put k) z (refl, refl, named) f q (sym t) refl)
 
 -- a change whose only number is 9, for the level alone: RPA and DPA
 module _ (s : StoredState) (c : Change) (only : changeLadder (stateOf s) (memoryOf (s .volatile)) c ≡ (9, eqb (s .level) 0) ∷ []) (d : Decision) where
@@ -92,9 +98,9 @@ module _ (s : StoredState) (c : Change) (only : changeLadder (stateOf s) (memory
   level-locked e p = decides-refused s c 9 (rw (only, eq-eqb (s .level) 0 e, first) refl) d (λ z. omega arith) p
 
   pub level-open : (s .level ≡ 0 → ⊥) → (deed : Deed) → Decided 0 deed d → Fits deed (s .volatile) →
-      done deed (systemOf (d .system)) (stateOf s) ≡ changed (stateOf s) (memoryOf (s .volatile)) c → saving deed ≡ asksToSave (asks (change c)) → Decides s c d
+      done deed (systemOf (d .system)) (stateOf s) ≡ changed (stateOf s) (memoryOf (s .volatile)) c → saving deed ≡ asksToSave (asks (change c)) → removing deed ≡ false → Decides s c d
   unfolding first
-  level-open e deed p f q t = decides-accepted s c 0 (rw (only, ne-eqb (s .level) 0 e, first) refl) d deed refl p f q t
+  level-open e deed p f q t r = decides-accepted s c 0 (rw (only, ne-eqb (s .level) 0 e, first) refl) d deed refl p f q t r
 
 -- ---- the places of a change that is accepted
 
@@ -105,13 +111,6 @@ module _ (st : State) (m : Memory) where
   link-user a b e =
       let off = none-applies (drop 2 precedence) (changeLadder st m (link a b)) refl refl e in
       present-user m a (or-false (absent m a) _ (or-false (absent m a || absent m b) _ (off 7) .0) .0) (or-false (reserved a) _ (off 8) .0)
-
-  -- what is removed is a user system
-  pub remove-user : (a : List ℕ) → first (changeLadder st m (remove a)) ≡ 0 → isUser m a ≡ true
-  unfolding changeLadder inOrder applies all any
-  remove-user a e =
-      let off = none-applies (drop 2 precedence) (changeLadder st m (remove a)) refl refl e in
-      present-user m a (or-false (absent m a) _ (off 7) .0) (or-false (reserved a) _ (off 8) .0)
 
   -- what is defined or copied finds its place
   pub define-room : (k : Kind) (n : List ℕ) (t : Vec3) (u : Turns) → first (changeLadder st m (define k n t u)) ≡ 0 → noRoom (m .systems) (placeNamed (m .systems) n) ≡ false

@@ -1,18 +1,22 @@
 // What is decided of a change: the number with which it is refused, and what is to be done. The memory itself is edited by whoever holds it, in place.
+use crate::conditions::name_used;
 use facts::numbers::ACCEPTED;
+use facts::numbers::NEEDED;
 use memory::edit::put_at;
 use memory::edit::removed_at;
 use memory::factory::blank_system;
 use memory::factory::factory_memory;
 use model::Enabled;
+use model::Memory;
 use model::State;
 use model::System;
 ghost use mathlib.Core.Path.{_≡_};
 ghost use mathlib.Core.Bool.{true};
-ghost use Rattle.model.specs.Stored.{nameShaped};
-ghost use Rattle.commands.specs.Done.{saving, Doable, Applied};
+ghost use Rattle.model.specs.Use.{nameInUse};
+ghost use Rattle.model.specs.Stored.{systemOf, memoryOf, nameShaped};
+ghost use Rattle.commands.specs.Done.{saving, removing, numberIn, Doable, Applied};
 
-// What a line does to the state. Places and values are those that are set.
+// What a line does to the state. Places and values are those that are set. A removal still depends on the permanent memory (`settled`).
 pub enum Deed {
     Keep,
     SetError(u8),
@@ -25,7 +29,7 @@ pub enum Deed {
     Reset,
 }
 
-// The number, 0 if the change is accepted; what is done; and the system that Put puts.
+// The number, 0 if the change is accepted (a removal as far as the volatile memory tells); what is done; and the system that Put puts or Remove takes away.
 pub struct Decision {
     pub number: u8,
     pub deed: Deed,
@@ -73,9 +77,52 @@ pub fn saves(deed: Deed) -> bool
     }
 }
 
-// The state once it is done.
-pub fn applied(s: State, d: Decision) -> State
+// Whether it removes a system.
+fn removes(deed: Deed) -> bool
+    ensures { λ r. ⌜ r ≡ removing deed ⌝ }
+{
+    match deed {
+        Deed::Keep => false,
+        Deed::SetError(_) => false,
+        Deed::Put(_) => false,
+        Deed::Remove(_) => true,
+        Deed::Enable(_) => false,
+        Deed::SetLevel(_) => false,
+        Deed::Save => false,
+        Deed::Restore => false,
+        Deed::Reset => false,
+    }
+}
+
+// The next start needs what a removal takes away: its name is in use in the permanent memory.
+fn needed(saved: Memory, gone: System) -> bool
+    ensures { λ r. ⌜ r ≡ nameInUse (memoryOf saved) (systemOf gone .name) ⌝ }
+{
+    let name = gone.name;
+    name_used(saved, name)
+}
+
+// The number of a decision, once the permanent memory has been looked at. Only a removal is looked up there: where a decision is made the permanent memory is
+// not at hand, since it would be copied for every line. (For the same reason the look is a function of its own, `needed`: the compiler copies a memory where
+// the function that searches it begins, with what was put into that function.)
+pub fn settled(saved: Memory, d: Decision) -> u8
+    ensures { λ r. ⌜ r ≡ numberIn d (memoryOf saved) ⌝ }
+{
+    let deed = d.deed;
+    if !removes(deed) {
+        return d.number;
+    }
+    let gone = d.system;
+    if needed(saved, gone) {
+        return NEEDED;
+    }
+    ACCEPTED
+}
+
+// The state once it is done, under the number that was settled.
+pub fn applied(s: State, d: Decision, number: u8) -> State
     requires { ⌜ Doable (s .volatile) d ⌝ }
+    requires { ⌜ number ≡ numberIn d (memoryOf (s .permanent)) ⌝ }
     ensures { λ r. ⌜ Applied s d r ⌝ }
 {
     let mut volatile = s.volatile;
@@ -87,7 +134,13 @@ pub fn applied(s: State, d: Decision) -> State
         Deed::Keep => {}
         Deed::SetError(n) => error = n,
         Deed::Put(place) => volatile = put_at(volatile, place, d.system),
-        Deed::Remove(place) => volatile = removed_at(volatile, place),
+        Deed::Remove(place) => {
+            if number == ACCEPTED {
+                volatile = removed_at(volatile, place);
+            } else {
+                error = number;
+            }
+        }
         Deed::Enable(e) => volatile.enabled = e,
         Deed::SetLevel(n) => level = n,
         Deed::Save => permanent = volatile,

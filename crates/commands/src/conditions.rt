@@ -1,6 +1,7 @@
-// The conditions of numbers 9 to 13, over what the names mean and the links that were seen.
+// The conditions of numbers 9 to 13, over what the names mean and the links that were seen; and that of 20, over a whole memory.
 use crate::subject::Subject;
 use chains::links::Links;
+use chains::links::links_of;
 use chains::links::on_chain;
 use chains::used::at_place;
 use chains::used::in_use;
@@ -8,16 +9,20 @@ use facts::groups::guarded;
 use facts::groups::same_group;
 use facts::kinds::code_of;
 use facts::limits::MAX_SYSTEMS;
+use memory::find::place_of;
 use model::Enabled;
 use model::Group;
 use model::Kind;
+use model::Memory;
+use model::Name;
 ghost use mathlib.Core.Path.{_≡_};
 ghost use mathlib.Core.List.{List};
 ghost use Prim.Native.Nat.{_≤_};
 ghost use Rattle.model.specs.Limits.{maxSystems};
 ghost use lib.ListN.{length};
 ghost use Rattle.model.specs.Memory.{System};
-ghost use Rattle.model.specs.Use.{usedAt};
+ghost use Rattle.model.specs.Use.{usedAt, nameInUse};
+ghost use Rattle.model.specs.Stored.{bytesOf, memoryOf};
 ghost use Rattle.model.specs.Refusals.{locked, otherType, wrongPred, atOrBefore, noRoom};
 ghost use Rattle.chains.specs.Flat.{linkedBy, memoryBy, LinksOf};
 ghost use Rattle.memory.specs.Put.{holding};
@@ -85,6 +90,19 @@ pub fn used_in(links: Links, e: Enabled, place: u8) -> bool
     let preds = links.preds;
     let count = links.count;
     used(&preds[..count], e, place)
+}
+
+// The name is that of a user system of the memory, and it is in use there.
+pub fn name_used(m: Memory, n: Name) -> bool
+    ensures { λ r. ⌜ r ≡ nameInUse (memoryOf m) (bytesOf n) ⌝ }
+{
+    let place = place_of(m, n);
+    if place == 0 {
+        return false;
+    }
+    let links = links_of(m);
+    let e = m.enabled;
+    used_in(links, e, place)
 }
 
 // What the links say of the system at a place: it is in use; it is the other one or on its chain.

@@ -1,4 +1,4 @@
-// What the ladder asks of the names and the links, from one look at the memory: later tests look at no memory.
+// What the ladder asks of the names and the links, from one look at the volatile memory: later tests do not look at it again.
 use chains::links::Links;
 use facts::kinds::group_of;
 use memory::find::Found;

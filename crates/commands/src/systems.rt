@@ -86,7 +86,7 @@ pub fn copy(k: Looked, level: u8, to: Name) -> Decision
     putting(y.place, made)
 }
 
-// KRM: the first name goes.
+// KRM: the first name goes, as far as the volatile memory tells.
 pub fn remove(k: Looked, level: u8) -> Decision
     requires { ⌜ k .links .count ≤ maxSystems ⌝ }
     ensures { λ r. ⌜ ((s : State) (x y : List ℕ) → s .level ≡ level → Sees (s .volatile) x y k → Decides s (remove x) r) ⌝ }
@@ -96,7 +96,12 @@ pub fn remove(k: Looked, level: u8) -> Decision
         return refused(number);
     }
     let x = k.first;
-    accepted(Deed::Remove(x.place))
+    let source = k.source;
+    Decision {
+        number: ACCEPTED,
+        deed: Deed::Remove(x.place),
+        system: source,
+    }
 }
 
 // KEN: the first name, user or fixed, is enabled.

@@ -21,7 +21,7 @@ use Rattle.commands.specs.declared.changed.Deed.the-variants.{Keep, SetError}
 use Rattle.commands.specs.declared.subject.Looked.{Looked}
 use Rattle.commands.specs.Obeyed.{obeyed}
 use Rattle.commands.specs.Subject.{Sees}
-use Rattle.commands.specs.Done.{done, Fits, saving, Decides, Applied}
+use Rattle.commands.specs.Done.{done, Fits, saving, removing, numberIn, Decides, Applied}
 use Rattle.engine.specs.declared.answer.Step.{Step}
 use Rattle.engine.specs.Answers.{answeredOf}
 use Rattle.engine.specs.Taken.{Takes}
@@ -44,19 +44,19 @@ retold e t = record { outcome = t .outcome ∙ sym e; doable = t .doable; saves 
 pub asked-as : {s : StoredState} {v w : Bool} {o : Outcome} {r : Step} {b : List ℕ} → v ≡ w → Takes s w o r b → Takes s v o r b
 asked-as e t = rw e t
 
--- a step by the deed of its decision
+-- a step by the deed of its decision, which is no removal
 by-deed : (s : StoredState) (w : Bool) (r : Step) (b : List ℕ) (n : ℕ) (deed : Deed) → Says (r .decision) n deed → Fits deed (s .volatile) →
-    saving deed ≡ eqb n 0 && w →
+    saving deed ≡ eqb n 0 && w → removing deed ≡ false →
     Takes s w (record { state = done deed (systemOf (r .decision .system)) (stateOf s); number = n; count = r .length; buffer = b }) r b
-by-deed s w r b n deed p fits t =
-    record { outcome = rw (p .0, p .1) refl; doable = record { fits = rw (p .1) fits; named = p .2 }; saves = rw (p .0, p .1) t }
+by-deed s w r b n deed p fits t stays =
+    record { outcome = rw (p .0, p .1, stays) refl; doable = record { fits = rw (p .1) fits; named = p .2 }; saves = rw (p .0, p .1, stays) t }
 
 -- a decision without a reply
 module _ (s : StoredState) (d : Decision) (r : Step) (silent : r ≡ record { decision = d; length = 0 }) (b : List ℕ) where
   -- a refusal is a step taken
   pub refusal-taken : (w : Bool) (n : ℕ) → eqb n 0 ≡ false → (o : Outcome) → o ≡ refused (withError (stateOf s) n) n b → Says d n (SetError n) → Takes s w o r b
-  unfolding done Fits saving
-  refusal-taken w n z o is p = rw silent (retold is (by-deed s w (record { decision = d; length = 0 }) b n (SetError n) p tt (rw z refl)))
+  unfolding done Fits saving removing
+  refusal-taken w n z o is p = rw silent (retold is (by-deed s w (record { decision = d; length = 0 }) b n (SetError n) p tt (rw z refl) refl))
 
   -- a decided change is a step taken
   pub change-taken : (c : Change) → Decides s c d → Takes s (asksToSave (asks (change c))) (obeyed (stateOf s) (asks (change c)) b) r b
@@ -69,13 +69,13 @@ module _ (s : StoredState) (r : Step) (k : ℕ) (text b c : List ℕ) (o : Outco
 
   -- the state stays
   pub reply-taken : o ≡ answered (stateOf s) text b → Says (r .decision) 0 Keep → Takes s false o r c
-  unfolding done Fits saving
-  reply-taken is p = retold (is ∙ replies (stateOf s)) (by-deed s false r c 0 Keep p tt refl)
+  unfolding done Fits saving removing
+  reply-taken is p = retold (is ∙ replies (stateOf s)) (by-deed s false r c 0 Keep p tt refl refl)
 
   -- the last error is then 0
   pub cleared-taken : o ≡ answered (withError (stateOf s) 0) text b → Says (r .decision) 0 (SetError 0) → Takes s false o r c
-  unfolding done Fits saving
-  cleared-taken is p = retold (is ∙ replies (withError (stateOf s) 0)) (by-deed s false r c 0 (SetError 0) p tt refl)
+  unfolding done Fits saving removing
+  cleared-taken is p = retold (is ∙ replies (withError (stateOf s) 0)) (by-deed s false r c 0 (SetError 0) p tt refl refl)
 
 -- a listing of the volatile memory m
 pub list-taken : (s : StoredState) (m : StoredMemory) → s .volatile ≡ m → (q : Query) → first (queryLadder (memoryOf m) q) ≡ 0 →
@@ -89,11 +89,11 @@ list-taken s m e q z r k b c p w =
     (obeyed-listed st b q n ∙ ap (λ (v : StoredMemory). answered st (listed (memoryOf v) q) b) e)
     (w .0, w .1, w .2)
 
--- a step taken, carried out on the whole state: an answer
-pub taken-answers : {s : StoredState} {w : Bool} {o : Outcome} {r : Step} {b : List ℕ} (t : StoredState) →
-    Takes s w o r b → Applied s (r .decision) t → shaped s ≡ true →
-    answeredOf (record { state = t; number = r .decision .number; length = r .length }) b ≡ ofOutcome o
-taken-answers {s} {w} {o} {r} {b} t taken applied shape =
-    answer-holds (record { state = t; number = r .decision .number; length = r .length }) b (applied .shape shape)
-    ∙ ap (λ (st : State). ofOutcome (record { state = st; number = r .decision .number; count = r .length; buffer = b })) (applied .state)
+-- a step taken, its number settled, and carried out on the whole state: an answer
+pub taken-answers : {s : StoredState} {w : Bool} {o : Outcome} {r : Step} {b : List ℕ} (t : StoredState) (n : ℕ) →
+    Takes s w o r b → n ≡ numberIn (r .decision) (memoryOf (s .permanent)) → Applied s (r .decision) t → shaped s ≡ true →
+    answeredOf (record { state = t; number = n; length = r .length }) b ≡ ofOutcome o
+taken-answers {s} {w} {o} {r} {b} t n taken settled applied shape =
+    answer-holds (record { state = t; number = n; length = r .length }) b (applied .shape shape)
+    ∙ (λ i. ofOutcome (record { state = applied .state i; number = settled i; count = r .length; buffer = b }))
     ∙ ap ofOutcome (taken .outcome)

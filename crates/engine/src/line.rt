@@ -11,6 +11,7 @@ use crate::lists::resultants_line;
 use crate::lists::systems_line;
 use commands::changed::applied;
 use commands::changed::refused;
+use commands::changed::settled;
 use commands::subject::Subject;
 use commands::subject::look;
 use commands::systems::copy;
@@ -112,9 +113,9 @@ pub fn obey(s: State, line: &[u8], reply: &mut [u8]) -> Stepped
     let m = s.volatile;
     let step = decide(m, s.level, s.error, line, reply);
     let decision = step.decision;
-    let number = decision.number;
+    let number = settled(s.permanent, decision);
     let length = step.length;
-    let state = applied(s, decision);
+    let state = applied(s, decision, number);
     Stepped {
         state,
         number,

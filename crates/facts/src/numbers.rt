@@ -47,6 +47,9 @@ pub const FULL: u8 = 13;
 // The bytes are no image.
 pub const NO_IMAGE: u8 = 14;
 
+// The name is in use in the permanent memory, so that the next start needs it.
+pub const NEEDED: u8 = 20;
+
 // A line can be refused with the number.
 pub fn of_line(n: u8) -> bool
     ensures { λ r. ⌜ r ≡ ofLine? n ⌝ }
@@ -61,6 +64,7 @@ pub fn of_line(n: u8) -> bool
         | (n == LOCKED)
         | (n == OTHER_TYPE)
         | (n == IN_USE)
+        | (n == NEEDED)
         | (n == RING)
         | (n == FULL)
 }

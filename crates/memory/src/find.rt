@@ -107,6 +107,15 @@ fn place_named(m: Memory, t: &[u8]) -> u8
     0
 }
 
+// The same of a stored name.
+pub fn place_of(m: Memory, n: Name) -> u8
+    ensures { λ r. ⌜ r ≡ placeNamed (systemsOf m) (bytesOf n) ⌝ }
+{
+    let k = clipped(n.len);
+    let x = n.bytes;
+    place_named(m, &x[..k])
+}
+
 // The fixed system of that name.
 fn fixed_named(t: &[u8]) -> Found
     ensures { λ r. ⌜ ((l : List SystemOf) → foundTold l r ≡ orNumber 7 (fixedNamed groups (now (t .entry)))) ⌝ }

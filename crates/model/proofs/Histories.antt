@@ -14,4 +14,5 @@ pub mod Relative  -- document 02 §3: one frame seen from another
 pub mod Between  -- the same over stored states, and between systems in use
 pub mod Switched  -- document 02 §7: what the power switch brings back
 pub mod LongBench  -- document 02 §4: what was saved under the former limit
+pub mod NextStart  -- document 02 §9: what the next start needs is not removed
 pub mod Bench  -- the program of the bench: what goes where, and what the file holds

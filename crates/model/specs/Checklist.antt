@@ -107,16 +107,16 @@ underPart (pair w t) n = under w n || under t n
 unfoldable pub underEnabled : Memory → List ℕ → Bool
 underEnabled m n = underPart (frames m .operating) n || (under (frames m .orientational) n || under (frames m .levelling) n)
 
--- refused with 11 or a number that is tried before it, and with 11 where none of those applies; only the last error changes
-pub record HeldFast (st : State) (line b : List ℕ) : Type 0 where
-  pub refused : eqb (stepped st line b .number) 11 || triedBefore 11 (stepped st line b .number) ≡ true
-  pub eleven : ((k : ℕ) → triedBefore 11 k ≡ true → applies k (ladder st line b) ≡ false) → stepped st line b .number ≡ 11
+-- refused with n or a number that is tried before it, and with n where none of those applies; only the last error changes
+pub record HeldFast (n : ℕ) (st : State) (line b : List ℕ) : Type 0 where
+  pub refused : eqb (stepped st line b .number) n || triedBefore n (stepped st line b .number) ≡ true
+  pub itself : ((k : ℕ) → triedBefore n k ≡ true → applies k (ladder st line b) ≡ false) → stepped st line b .number ≡ n
   pub kept : stepped st line b .state ≡ withError st (stepped st line b .number)
 
 abbrev pub RefusedUnderEnabled : State → Type 0
 RefusedUnderEnabled st =
     (n : List ℕ) → isUser (st .volatile) n ≡ true → underEnabled (st .volatile) n ≡ true →
-    (line b : List ℕ) (c : Change) → reading line ≡ asks (change c) → touches c n ≡ true → HeldFast st line b
+    (line b : List ℕ) (c : Change) → reading line ≡ asks (change c) → touches c n ≡ true → HeldFast 11 st line b
 
 -- ---- (4) save, switch off, switch on, list
 

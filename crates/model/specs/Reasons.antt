@@ -24,7 +24,8 @@ reason n =
     (has n 12 "ring: a system would hang on itself"
     (has n 13 "full: there are 16 systems already"
     (has n 14 "no image: no memory is saved as these bytes"
-    (ascii "refused"))))))))))))))
+    (has n 20 "needed: it was saved in use, and the next start has it so; WPA SKS once it is out of use frees it"
+    (ascii "refused")))))))))))))))
 
 -- the line that tells it: the number, a colon, the words
 abbrev pub reasonLine : ℕ → List ℕ

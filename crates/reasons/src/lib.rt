@@ -49,6 +49,11 @@ fn put_words(number: u8, out: &mut [u8], at: usize) -> usize
         12 => put_text(out, at, b"ring: a system would hang on itself"),
         13 => put_text(out, at, b"full: there are 16 systems already"),
         14 => put_text(out, at, b"no image: no memory is saved as these bytes"),
+        20 => put_text(
+            out,
+            at,
+            b"needed: it was saved in use, and the next start has it so; WPA SKS once it is out of use frees it",
+        ),
         _ => put_text(out, at, b"refused"),
     }
 }

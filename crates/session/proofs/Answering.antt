@@ -20,10 +20,10 @@ use Rattle.model.specs.Machine.{Outcome, stepped, written}
 use Rattle.model.specs.Checklist.{asksToSave}
 use Rattle.model.specs.PowerSwitch.{saves}
 use Rattle.model.specs.Trace.{refusalText, printed}
-use Rattle.model.specs.Stored.{FineState, shaped, stateOf}
+use Rattle.model.specs.Stored.{FineState, shaped, memoryOf, stateOf}
 use Rattle.model.proofs.Basics.{either}
 use Rattle.model.proofs.Histories.Kept.{well-formed-kept}
-use Rattle.commands.specs.Done.{saving, Applied}
+use Rattle.commands.specs.Done.{saving, numberIn, Applied}
 use Rattle.engine.specs.declared.answer.Step.{Step}
 use Rattle.engine.specs.Taken.{Takes, takenOf}
 use Rattle.reply.specs.Lines.{Replied}
@@ -107,13 +107,19 @@ module _ (s : StoredState) (fine : FineState s) (line b : List ℕ) (long : buff
         due = due;
       }
 
--- the same where the step was taken: it is said, and done
+-- the same where the step was taken: its number is settled, it is said, and done
 module _ (k : StoredManner) (s : StoredState) (fine : FineState s) (line b : List ℕ) (long : bufferLimit ≤ length b) (step : Step) (c : List ℕ)
-    (takes : Takes s (asksToSave (reading line)) (stepped (stateOf s) line b) step c) where
-  pub answers-taken : (d : List ℕ) (n : ℕ) → Says (step .decision .number) (step .length) c d n → length d ≡ length b →
-      (due : Due) → due ≡ record { store = k .storing && saving (step .decision .deed); reason = cond (k .explaining) (step .decision .number) 0 } →
+    (takes : Takes s (asksToSave (reading line)) (stepped (stateOf s) line b) step c) (number : ℕ)
+    (settled : number ≡ numberIn (step .decision) (memoryOf (s .permanent))) where
+  abbrev pub settledOutcome : Outcome
+  settledOutcome = record { state = takenOf (stateOf s) step c .state; number = number; count = step .length; buffer = c }
+
+  pub settled-is : settledOutcome ≡ stepped (stateOf s) line b
+  settled-is = (λ i. record { state = takenOf (stateOf s) step c .state; number = settled i; count = step .length; buffer = c }) ∙ takes .outcome
+
+  pub answers-taken : (d : List ℕ) (n : ℕ) → Says number (step .length) c d n → length d ≡ length b →
+      (due : Due) → due ≡ record { store = k .storing && saving (step .decision .deed); reason = cond (k .explaining) number 0 } →
       {next : StoredState} → Applied s (step .decision) next → Answers k s line b d (record { state = next; written = n; due = due })
   answers-taken d n says kept due told {next} done =
-      let o = takenOf (stateOf s) step c in
-      answers s fine line b long o (takes .outcome) k d (record { state = next; written = n; due = due }) says kept (done .state) (done .shape (fine .shape))
-      (due-is s fine line b long o (takes .outcome) k _ (takes .saves) due told)
+      answers s fine line b long settledOutcome settled-is k d (record { state = next; written = n; due = due }) says kept (done .state) (done .shape (fine .shape))
+      (due-is s fine line b long settledOutcome settled-is k _ (rw settled (takes .saves)) due told)

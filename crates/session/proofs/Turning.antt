@@ -11,18 +11,18 @@ use Rattle.model.specs.Memory.{State}
 use Rattle.model.specs.Request.{reading}
 use Rattle.model.specs.Machine.{stepped}
 use Rattle.model.specs.Checklist.{asksToSave}
-use Rattle.model.specs.Stored.{stateOf}
-use Rattle.commands.specs.Done.{saving, Doable, Applied}
+use Rattle.model.specs.Stored.{memoryOf, stateOf}
+use Rattle.commands.specs.Done.{saving, numberIn, Doable, Applied}
 use Rattle.commands.specs.declared.changed.Decision.{Decision}
 use Rattle.engine.specs.declared.answer.Step.{Step}
-use Rattle.engine.specs.Taken.{Takes, takenOf}
+use Rattle.engine.specs.Taken.{Takes}
 use Rattle.lines.specs.Before.{before}
 use Rattle.session.specs.Blocks.{Says, Run, nothing}
 use Rattle.session.specs.declared.due.Manner.{Manner as StoredManner}
 use Rattle.session.specs.declared.due.Due.{Due}
 use Rattle.session.proofs.Rest.{withRest, rest-again, put-again}
 use Rattle.lines.proofs.Places.{lineAt, rest, rest-long}
-use Rattle.session.proofs.Answering.{says-room, answers-taken}
+use Rattle.session.proofs.Answering.{says-room, settledOutcome, settled-is, answers-taken}
 use Rattle.session.proofs.Running.{run-turn}
 
 -- a line's answer is said, and what was decided is still to be done: whatever stored state has it done goes on with the run
@@ -35,19 +35,19 @@ module _ (k : StoredManner) (st₀ : State) (block out₀ out : List ℕ) (s : S
   pub turned : (end : ℕ) → end ≡ at + before (drop at block) → end < length block → (line : List ℕ) → line ≡ lineAt block at →
       bufferLimit ≤ length (rest out w) →
       (step : Step) (c : List ℕ) → Takes s (asksToSave (reading line)) (stepped (stateOf s) line (rest out w)) step c → length c ≡ length (rest out w) →
-      (y : List ℕ) (n : ℕ) → Says (step .decision .number) (step .length) (rest (withRest out w c) w) y n → length y ≡ length (rest (withRest out w c) w) →
-      (due : Due) → due ≡ record { store = k .storing && saving (step .decision .deed); reason = cond (k .explaining) (step .decision .number) 0 } →
+      (number : ℕ) → number ≡ numberIn (step .decision) (memoryOf (s .permanent)) →
+      (y : List ℕ) (n : ℕ) → Says number (step .length) (rest (withRest out w c) w) y n → length y ≡ length (rest (withRest out w c) w) →
+      (due : Due) → due ≡ record { store = k .storing && saving (step .decision .deed); reason = cond (k .explaining) number 0 } →
       Turned k st₀ block out₀ (withRest (withRest out w c) w y) s (step .decision) (end + 1) (w + n) due
-  turned end e h line l long step c takes kept y n says as-long due told =
+  turned end e h line l long step c takes kept number settled y n says as-long due told =
       let inside : w ≤ length out = omega (arith, run .room, run .long) in
       let again = rest-again out c w inside in
-      let o = takenOf (stateOf s) step c in
-      let p : Says (o .number) (o .count) (o .buffer) y n = rw again at says in
+      let p : Says number (step .length) c y n = rw again at says in
       let q : length y ≡ length (rest out w) = as-long ∙ ap length again ∙ kept in
       record {
-        room = omega (arith, says-room s (run .fine) line (rest out w) long o (takes .outcome) y n p q, rest-long out w, run .room, run .long);
+        room = omega (arith, says-room s (run .fine) line (rest out w) long (settledOutcome k s (run .fine) line (rest out w) long step c takes number settled) (settled-is k s (run .fine) line (rest out w) long step c takes number settled) y n p q, rest-long out w, run .room, run .long);
         doable = takes .doable;
         next = λ {s′} a. rw (put-again out c w inside y)
             (run-turn k st₀ block out₀ out s at w run end e h line y (record { state = s′; written = n; due = due }) l
-            (answers-taken k s (run .fine) line (rest out w) long step c takes y n p q due told a));
+            (answers-taken k s (run .fine) line (rest out w) long step c takes number settled y n p q due told a));
       }

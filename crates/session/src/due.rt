@@ -1,5 +1,5 @@
 // How a session is run, and what is due behind the answers of its lines.
-use commands::changed::Decision;
+use commands::changed::Deed;
 use commands::changed::saves;
 ghost use mathlib.Core.Path.{_≡_};
 ghost use mathlib.Core.Bool.{false, cond, not, _&&_, _||_};
@@ -27,28 +27,27 @@ pub fn nothing_due() -> Due
     }
 }
 
-fn store_due(k: Manner, d: Decision) -> bool
-    ensures { λ r. ⌜ r ≡ k .storing && saving (d .deed) ⌝ }
+fn store_due(k: Manner, deed: Deed) -> bool
+    ensures { λ r. ⌜ r ≡ k .storing && saving deed ⌝ }
 {
     if k.storing {
-        let deed = d.deed;
         return saves(deed);
     }
     false
 }
 
-fn reason_due(k: Manner, d: Decision) -> u8
-    ensures { λ r. ⌜ r ≡ cond (k .explaining) (d .number) 0 ⌝ }
+fn reason_due(k: Manner, number: u8) -> u8
+    ensures { λ r. ⌜ r ≡ cond (k .explaining) number 0 ⌝ }
 {
-    if k.explaining { d.number } else { 0 }
+    if k.explaining { number } else { 0 }
 }
 
-// What is due behind a line of which this was decided.
-pub fn due_of(k: Manner, d: Decision) -> Due
-    ensures { λ r. ⌜ r ≡ record { store = k .storing && saving (d .deed); reason = cond (k .explaining) (d .number) 0 } ⌝ }
+// What is due behind a line with this number, of which this deed was decided.
+pub fn due_of(k: Manner, number: u8, deed: Deed) -> Due
+    ensures { λ r. ⌜ r ≡ record { store = k .storing && saving deed; reason = cond (k .explaining) number 0 } ⌝ }
 {
-    let store = store_due(k, d);
-    let reason = reason_due(k, d);
+    let store = store_due(k, deed);
+    let reason = reason_due(k, number);
     Due { store, reason }
 }
 

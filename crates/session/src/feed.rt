@@ -8,6 +8,7 @@ use crate::due::nothing_due;
 use crate::run::run_lines;
 use crate::run::say;
 use commands::changed::applied;
+use commands::changed::settled;
 use engine::line::decide;
 use facts::limits::ENOUGH;
 use lines::line_end;
@@ -75,9 +76,11 @@ fn answer_line(k: Manner, s: State, line: &[u8], out: &mut [u8]) -> Answer
     let m = s.volatile;
     let step = decide(m, s.level, s.error, line, out);
     let decision = step.decision;
-    let written = say(decision.number, step.length, out);
-    let due = due_of(k, decision);
-    let state = applied(s, decision);
+    let number = settled(s.permanent, decision);
+    let written = say(number, step.length, out);
+    let deed = decision.deed;
+    let due = due_of(k, number, deed);
+    let state = applied(s, decision, number);
     Answer {
         state,
         written,

@@ -5,6 +5,7 @@ use crate::due::due_of;
 use crate::due::is_due;
 use crate::due::nothing_due;
 use commands::changed::Deed;
+use commands::changed::settled;
 use engine::line::decide;
 use facts::limits::BUFFER_LIMIT;
 use facts::numbers::ACCEPTED;
@@ -100,25 +101,29 @@ pub fn run_lines(k: Manner, s: State, block: &[u8], out: &mut [u8]) -> Ran
     let mut written = 0;
     let mut due = nothing_due();
     while BUFFER_LIMIT <= out.len() - written {
-        if is_due(due) {
-            break;
-        }
         let end = line_end(block, used);
-        if end == block.len() {
+        if is_due(due) | (end == block.len()) {
             break;
         }
         let line = &block[used..end];
         let step = decide(volatile, level, error, line, &mut out[written..]);
         let decision = step.decision;
-        due = due_of(k, decision);
-        written += say(decision.number, step.length, &mut out[written..]);
-        used = end + 1;
+        let number = settled(permanent, decision);
         let deed = decision.deed;
+        due = due_of(k, number, deed);
+        written += say(number, step.length, &mut out[written..]);
+        used = end + 1;
         match deed {
             Deed::Keep => {}
             Deed::SetError(n) => error = n,
             Deed::Put(place) => volatile = put_at(volatile, place, decision.system),
-            Deed::Remove(place) => volatile = removed_at(volatile, place),
+            Deed::Remove(place) => {
+                if number == ACCEPTED {
+                    volatile = removed_at(volatile, place);
+                } else {
+                    error = number;
+                }
+            }
             Deed::Enable(e) => volatile.enabled = e,
             Deed::SetLevel(n) => level = n,
             Deed::Save => permanent = volatile,

@@ -3,6 +3,7 @@ use Prim.Native.Nat.{ℕ, _+_, _≤_, _<_}
 use mathlib.Core.Path.{_≡_, sym, ap, _∙_}
 use mathlib.Core.List.{List}
 use mathlib.Core.Bool.{true, false}
+use mathlib.Core.Logic.{⊎-elim}
 use native.Mathlib.Omega.{arith}
 use native.Mathlib.Decide.{decLt, ℕ-discrete}
 use lib.ListN.{length}
@@ -14,7 +15,8 @@ use Rattle.model.specs.Effects.{mended, mendedPart, removedAt}
 use Rattle.model.proofs.Chains.Relink.{Misses}
 use Rattle.model.proofs.Edits.Removal.{old, old-low, old-high, old-mended, mended-old, mended-zero, mended-gone, mended-pred, mended-fixed, mended-in-range, without, without-length, removed-at, not-its-own, removed-no-ring}
 use Rattle.model.proofs.Memories.Fine.{Stands, Placed, PartPlaced, Systems, Fine, preds-within}
-use Rattle.model.proofs.Memories.Named.{place-stands, user-place}
+use Rattle.model.proofs.Basics.{either}
+use Rattle.model.proofs.Memories.Named.{place-stands, place-name, user-place}
 use Rattle.model.proofs.Chains.Frames.{PartHas, EachEnabled}
 use Rattle.model.proofs.Edits.Defining.{not-in-use}
 
@@ -60,6 +62,20 @@ module _ (m : Memory) (fine : Fine m) (a : ℕ) (at : Stands (m .systems) a) whe
       go (yes e) = rw e (gone (rw e at f))
       go (no n) = carried-other k q n f
 
+  name-at : (x : ℕ) → systemAt (without l a) x .name ≡ systemAt l (old a x) .name
+  name-at x = ap (λ (s : System). s .name) (removed-at l a (at .0) (at .1) x)
+
+  -- no system that is left has the name
+  nobody : (x : ℕ) → Stands (without l a) x → systemAt (without l a) x .name ≡ systemAt l a .name → ⊥
+  nobody x h e = go (decLt x a)
+    where
+      same : old a x ≡ a
+      same = fine .systems .differ (old a x) a (old-stands x h) at (sym (name-at x) ∙ e)
+
+      go : Dec (x < a) → ⊥
+      go (yes b) = omega (arith, same, old-low a x b)
+      go (no b) = omega (arith, same, old-high a x (omega arith))
+
   left : Systems (without l a)
   left =
       record {
@@ -70,9 +86,6 @@ module _ (m : Memory) (fine : Fine m) (a : ℕ) (at : Stands (m .systems) a) whe
             let q = fine .systems .differ (old a i) (old a j) (old-stands i h) (old-stands j g) (sym (name-at i) ∙ e ∙ name-at j) in
             sym (mended-old a p (at .0) i) ∙ ap (mended a p) q ∙ mended-old a p (at .0) j;
       }
-    where
-      name-at : (x : ℕ) → systemAt (without l a) x .name ≡ systemAt l (old a x) .name
-      name-at x = ap (λ (s : System). s .name) (removed-at l a (at .0) (at .1) x)
 
   -- ---- what is enabled
 
@@ -109,3 +122,20 @@ module _ (m : Memory) (fine : Fine m) (a : ℕ) (at : Stands (m .systems) a) whe
 -- by name
 pub remove-fine : (m : Memory) → Fine m → (a : List ℕ) → isUser m a ≡ true → nameInUse m a ≡ false → Fine (removedAt m (placeNamed (m .systems) a))
 remove-fine m f a user eleven = removed-fine m f (placeNamed (m .systems) a) (place-stands (m .systems) a (user-place m a user)) (not-in-use m f a user eleven)
+
+-- the name has gone
+pub removed-name : (m : Memory) → Fine m → (a : List ℕ) → isUser m a ≡ true → isUser (removedAt m (placeNamed (m .systems) a)) a ≡ false
+unfolding removedAt
+removed-name m f a user = ⊎-elim (λ e. absurd (met e)) (λ e. e) (either (isUser m′ a))
+  where
+    k : ℕ
+    k = placeNamed (m .systems) a
+
+    m′ : Memory
+    m′ = removedAt m k
+
+    met : isUser m′ a ≡ true → ⊥
+    met e =
+        let there = user-place m′ a e in
+        nobody m f k (place-stands (m .systems) a (user-place m a user)) (placeNamed (m′ .systems) a) (place-stands (m′ .systems) a there)
+        (place-name (m′ .systems) a there ∙ sym (place-name (m .systems) a (user-place m a user)))

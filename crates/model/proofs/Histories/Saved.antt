@@ -28,7 +28,7 @@ use Rattle.model.proofs.Histories.Kept.{well-formed-kept}
 
 -- ---- the permanent memory, from one save to the next
 
-saved-line : (st : State) (line b : List ℕ) → asksToSave (reading line) ≡ true → stepped st line b .number ≡ 0 →
+pub saved-line : (st : State) (line b : List ℕ) → asksToSave (reading line) ≡ true → stepped st line b .number ≡ 0 →
     stepped st line b .state .permanent ≡ st .volatile
 saved-line st line b s z = line-permanent st line b ∙ rw (s, z)
 

@@ -13,10 +13,12 @@ use Rattle.model.specs.Examples.Storage.{OfStorage}
 use Rattle.model.specs.Examples.Use.{OfUse}
 use Rattle.model.specs.Examples.Relative.{OfRelative}
 use Rattle.model.specs.Examples.LongBench.{OfLongBench}
+use Rattle.model.specs.Examples.NextStart.{OfNextStart}
 use Rattle.model.specs.Examples.Bench.{OfBench}
-use Rattle.model.specs.Demand.{changesEnabled, asksToEnable, noneTaken}
+use Rattle.model.specs.Demand.{changesEnabled, asksToEnable, noneTaken, held, heldPart, frames}
 use Rattle.model.specs.Histories.{steadyBy}
-use Rattle.model.specs.Checklist.{asksToSave}
+use Rattle.model.specs.Checklist.{asksToSave, underEnabled}
+use Rattle.model.specs.NextStart.{neverSavedInUse}
 use Rattle.model.specs.PowerSwitch.{saves}
 use Rattle.model.specs.LongBench.{systemWithin, memoryWithin}
 use Rattle.model.specs.Reasons.{reason}
@@ -67,12 +69,15 @@ of-numbers = record {
   one-level = refl;
   one-error = refl;
   one-other-error = refl;
+  one-between = refl;
+  one-beyond = refl;
   one-volatile = refl;
   one-permanent = refl;
   one-restart = refl;
   one-image = refl;
   one-use = refl;
   last-errors = refl;
+  last-twenty = refl;
   two = refl;
   two-image = refl;
   two-first = refl;
@@ -81,6 +86,7 @@ of-numbers = record {
   nine = refl;
   ten = refl;
   eleven = refl;
+  twenty = refl;
   twelve = refl;
   thirteen = refl;
   three-first = refl;
@@ -135,6 +141,11 @@ of-long-bench =
       new-image = refl;
     }
 
+of-next-start : OfNextStart
+unfolding sessions-open asksToSave saves held heldPart frames underEnabled neverSavedInUse
+of-next-start =
+    record { operator = refl; freed = refl; chain = refl; by-name = refl; free = refl; before = refl; from-image = refl; saved-unused = refl; saved-used = refl }
+
 of-bench : OfBench
 unfolding sessions-open asksToSave saves reason storedActs acted ksbench gathered byteOf poweredOn fileAfter
 of-bench =
@@ -158,8 +169,9 @@ of-bench =
       eleven = refl;
       twelve = refl;
       thirteen = refl;
+      twenty = refl;
     }
 
 pub examples : Examples
 examples =
-    record { memories = of-memories; poses = of-poses; lines = of-lines; commands = of-commands; lists = of-lists; numbers = of-numbers; images = of-images; histories = of-histories; storage = of-storage; in-use = of-use; relative = of-relative; long-bench = of-long-bench; bench = of-bench }
+    record { memories = of-memories; poses = of-poses; lines = of-lines; commands = of-commands; lists = of-lists; numbers = of-numbers; images = of-images; histories = of-histories; storage = of-storage; in-use = of-use; relative = of-relative; long-bench = of-long-bench; next-start = of-next-start; bench = of-bench }

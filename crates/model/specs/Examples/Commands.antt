@@ -51,7 +51,7 @@ pub record OfCommands : Type 0 where
   -- [Commands, WPA] only WPA writes the permanent memory; RPA brings it back, with what was enabled; DPA leaves it as it is
   pub memories : Session (
       "CCL 1 ADVANCED" ⇒ taken ∷ "KSD A" ⇒ taken ∷ "KEN A" ⇒ taken ∷ writes (hex "01 00 00 00 00 00")
-      ∷ "WPA SKS" ⇒ taken ∷ "KSD B" ⇒ taken ∷ "KEN B" ⇒ taken ∷ "KRM A" ⇒ taken ∷ "RPA SKS" ⇒ taken
+      ∷ "WPA SKS" ⇒ taken ∷ "KSD B" ⇒ taken ∷ "KEN B" ⇒ taken ∷ "KSD A X 1" ⇒ taken ∷ "KCP A C" ⇒ taken ∷ "RPA SKS" ⇒ taken
       ∷ "KLN?" ⇒ replies "ZERO=ZERO \nPI_BASE=HEXAPOD \nPI_LEVELLING=HEXAPOD \nA=ZERO\n"
       ∷ "KEN?" ⇒ replies "A=KSD \nPI_BASE=KSB(PI) \nPI_LEVELLING=KLD(PI)\n"
       ∷ "DPA SKS" ⇒ taken ∷ "KLN?" ⇒ replies "ZERO=ZERO \nPI_BASE=HEXAPOD \nPI_LEVELLING=HEXAPOD\n"

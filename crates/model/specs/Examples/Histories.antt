@@ -50,12 +50,12 @@ pub record OfHistories : Type 0 where
   pub switched : Session (
       "CCL 1 ADVANCED" ⇒ taken ∷ "KSW V X 1" ⇒ taken ∷ "KSW W X 2" ⇒ taken ∷ "KLN W V" ⇒ taken ∷ "KST T" ⇒ taken ∷ "KEN W" ⇒ taken ∷ "KEN T" ⇒ taken
       ∷ writes (hex "01 00 00 00 00 00") ∷ "WPA SKS" ⇒ taken ∷ writes savedPair
-      ∷ "KEN ZERO" ⇒ taken ∷ "KLN W ZERO" ⇒ taken ∷ "KRM V" ⇒ taken ∷ "WPA" ⇒ number 5 ∷ "DPA SKS" ⇒ taken ∷ "KLD L" ⇒ taken ∷ "KEN L" ⇒ taken ∷ writes savedPair
+      ∷ "KEN ZERO" ⇒ taken ∷ "KLN W ZERO" ⇒ taken ∷ "KRM V" ⇒ number 20 ∷ "WPA" ⇒ number 5 ∷ "DPA SKS" ⇒ taken ∷ "KLD L" ⇒ taken ∷ "KEN L" ⇒ taken ∷ writes savedPair
       ∷ restarts ∷ "ERR?" ⇒ replies "0\n" ∷ "DPA SKS" ⇒ number 9 ∷ "KEN?" ⇒ replies pairEnabled ∷ "KLN?" ⇒ replies pairLinks ∷ "KRM T" ⇒ number 11 ∷ writes savedPair
-      ∷ "KEN ZERO" ⇒ taken ∷ "KRM T" ⇒ taken ∷ restarts ∷ "KEN?" ⇒ replies pairEnabled ∷ "KLN?" ⇒ replies pairLinks ∷ writes savedPair
+      ∷ "KEN ZERO" ⇒ taken ∷ "KRM T" ⇒ number 20 ∷ "KST T X 5" ⇒ taken ∷ restarts ∷ "KEN?" ⇒ replies pairEnabled ∷ "KLN?" ⇒ replies pairLinks ∷ writes savedPair
       ∷ starts savedPair 0 ∷ "ERR?" ⇒ replies "0\n" ∷ "KSB B" ⇒ number 9 ∷ "KEN?" ⇒ replies pairEnabled ∷ "KLN?" ⇒ replies pairLinks ∷ [])
   -- [02 §7] the last save counts, also where the switch follows it at once; RPA fetches what was saved and leaves it there
   pub saved-again : Session (
       "KSD A" ⇒ taken ∷ "WPA SKS" ⇒ taken ∷ restarts ∷ "KEN A" ⇒ taken ∷ "KSD B" ⇒ taken ∷ "WPA SKS" ⇒ taken ∷ restarts ∷ "KEN?" ⇒ replies "A=KSD \nPI_BASE=KSB(PI) \nPI_LEVELLING=KLD(PI)\n"
-      ∷ "KEN ZERO" ⇒ taken ∷ "KRM A" ⇒ taken ∷ "CCL 1 ADVANCED" ⇒ taken ∷ "RPA SKS" ⇒ taken ∷ "KEN?" ⇒ replies "A=KSD \nPI_BASE=KSB(PI) \nPI_LEVELLING=KLD(PI)\n"
+      ∷ "KEN ZERO" ⇒ taken ∷ "KLN A B" ⇒ taken ∷ "CCL 1 ADVANCED" ⇒ taken ∷ "RPA SKS" ⇒ taken ∷ "KEN?" ⇒ replies "A=KSD \nPI_BASE=KSB(PI) \nPI_LEVELLING=KLD(PI)\n"
       ∷ "KRM B" ⇒ taken ∷ restarts ∷ "KLN?" ⇒ replies "ZERO=ZERO \nPI_BASE=HEXAPOD \nPI_LEVELLING=HEXAPOD \nA=ZERO \nB=ZERO\n" ∷ [])

@@ -19,12 +19,15 @@ pub record OfNumbers : Type 0 where
   pub one-level : sent (stateWith factory factory 2 5) (ascii "KEN?") ≡ refused (stateWith factory factory 2 5) 1 (lent 4096)
   pub one-error : answer (sent (stateWith factory factory 0 1) (ascii "KEN?")) ≡ number 1
   pub one-other-error : answer (sent (stateWith factory factory 0 14) (ascii "KEN?")) ≡ number 1
+  pub one-between : answer (sent (stateWith factory factory 0 19) (ascii "KEN?")) ≡ number 1
+  pub one-beyond : answer (sent (stateWith factory factory 0 21) (ascii "KEN?")) ≡ number 1
   pub one-volatile : stepped (stateWith broken factory 0 0) (127 ∷ []) [] ≡ refused (stateWith broken factory 0 0) 1 []
   pub one-permanent : answer (sent (stateWith factory broken 0 0) (ascii "KEN?")) ≡ number 1
   pub one-restart : restart (stateWith broken factory 0 3) ≡ began (stateWith broken factory 0 3) 1
   pub one-image : writeImage (stateWith broken factory 0 3) [] ≡ refused (stateWith broken factory 0 3) 1 []
   pub one-use : askUse (stateWith factory broken 0 0) (ascii "ZERO") ≡ refusesUse
   pub last-errors : answer (sent (stateWith factory factory 1 13) (ascii "ERR?")) ≡ replies "13\n"
+  pub last-twenty : answer (sent (stateWith factory factory 1 20) (ascii "ERR?")) ≡ replies "20\n"
   -- [Error 2] 4,095 bytes are too few, for a line and for an image; it comes before 3
   pub two : stepped startFactory (ascii "KEN?") (lent 4095) ≡ refused (stateWith factory factory 0 2) 2 (lent 4095)
   pub two-image : writeImage startFactory (lent 4095) ≡ refused startFactory 2 (lent 4095)
@@ -50,6 +53,10 @@ pub record OfNumbers : Type 0 where
   pub eleven : Session (
       "KSD A" ⇒ taken ∷ "KSD B" ⇒ taken ∷ "KSD C" ⇒ taken ∷ "KLN B A" ⇒ taken ∷ "KEN B" ⇒ taken ∷ "KSD A" ⇒ number 11 ∷ "KLN A C" ⇒ number 11
       ∷ "KCP C A" ⇒ number 11 ∷ "KRM A" ⇒ number 11 ∷ "KLN C A" ⇒ taken ∷ "KCP A C" ⇒ taken ∷ "KCP B N" ⇒ taken ∷ [])
+  -- [02 §9] saved in use and in use no longer: not removed, but overwritten, linked and copied over
+  pub twenty : Session (
+      "KSD A" ⇒ taken ∷ "KSD B" ⇒ taken ∷ "KLN B A" ⇒ taken ∷ "KEN B" ⇒ taken ∷ "WPA SKS" ⇒ taken ∷ "KEN ZERO" ⇒ taken ∷ "KRM B" ⇒ number 20 ∷ "KRM A" ⇒ number 20
+      ∷ "KSD A X 1" ⇒ taken ∷ "KLN B ZERO" ⇒ taken ∷ "KCP A B" ⇒ taken ∷ "KCP A N" ⇒ taken ∷ "KRM N" ⇒ taken ∷ [])
   -- [Error 12] no ring by KLN, no copy over S or its chain by KCP
   pub twelve : Session (
       "KSD A" ⇒ taken ∷ "KSD B" ⇒ taken ∷ "KSD C" ⇒ taken ∷ "KLN B A" ⇒ taken ∷ "KLN C B" ⇒ taken ∷ "KLN A B" ⇒ number 12 ∷ "KLN A C" ⇒ number 12
@@ -57,14 +64,15 @@ pub record OfNumbers : Type 0 where
   -- [Error 13] a seventeenth system, by a definition or by a copy; a name that is there needs no room
   pub thirteen : Session (
       map (_⇒ taken) sixteen ++ ("KSD Q" ⇒ number 13 ∷ "KCP A Q" ⇒ number 13 ∷ "KSD A X 1" ⇒ taken ∷ "KCP A B" ⇒ taken ∷ "KRM A" ⇒ taken ∷ "KSD Q" ⇒ taken ∷ []))
-  -- [Errors, end] where two numbers apply the first is given: 3 before 4, 6 before 8, 7 before 8 and 9, 8 before 9, 9 before 10 and 11, 10 before 11, 11 before 12
+  -- [Errors, end] where two numbers apply the first is given: 3 before 4, 6 before 8, 7 before 8 and 9, 8 before 9, 9 before 10 and 11, 10 before 11, 11 before 12 and 20
   pub three-first : answer (sent startFactory (127 ∷ [])) ≡ number 3
   pub first : Session (
-      "CCL 1 ADVANCED" ⇒ taken ∷ "KSB B" ⇒ taken ∷ "KEN B" ⇒ taken ∷ "KSD A" ⇒ taken ∷ "KEN A" ⇒ taken ∷ "KSW W" ⇒ taken ∷ "CCL 0" ⇒ taken
+      "CCL 1 ADVANCED" ⇒ taken ∷ "KSB B" ⇒ taken ∷ "KEN B" ⇒ taken ∷ "KSD A" ⇒ taken ∷ "KEN A" ⇒ taken ∷ "KSW W" ⇒ taken ∷ "WPA SKS" ⇒ taken ∷ "CCL 0" ⇒ taken
       ∷ "KSD ZERO X 2001" ⇒ number 6 ∷ "KRM HEXAPOD" ⇒ number 7 ∷ "KCP N ZERO" ⇒ number 7 ∷ "KLN ZERO N" ⇒ number 7 ∷ "KLN B N" ⇒ number 7
       ∷ "KSB PI_BASE" ⇒ number 8 ∷ "KRM PI_BASE" ⇒ number 8 ∷ "KLN PI_BASE B" ⇒ number 8 ∷ "KCP PI_BASE B" ⇒ number 8 ∷ "KCP B ZERO" ⇒ number 8
       ∷ "KSB A" ⇒ number 9 ∷ "KLN B A" ⇒ number 9 ∷ "KCP B A" ⇒ number 9 ∷ "KSB B" ⇒ number 9 ∷ "KRM B" ⇒ number 9
-      ∷ "KSW A" ⇒ number 10 ∷ "KLN A W" ⇒ number 10 ∷ "KCP W A" ⇒ number 10 ∷ "KLN A A" ⇒ number 11 ∷ "KCP A A" ⇒ number 11 ∷ [])
+      ∷ "KSW A" ⇒ number 10 ∷ "KLN A W" ⇒ number 10 ∷ "KCP W A" ⇒ number 10 ∷ "KLN A A" ⇒ number 11 ∷ "KCP A A" ⇒ number 11
+      ∷ "KRM A" ⇒ number 11 ∷ [])
   -- [Errors, end] a refusal sets the last error and nothing else; a reply is written from byte 0 on, and later bytes stay
   pub refusal : stepped startFactory (ascii "KSB K") (lent 4100) ≡ refused (stateWith factory factory 0 9) 9 (lent 4100)
   pub reply : stepped (stateWith factory factory 1 9) (ascii "ERR?") (lent 4096)

@@ -1,6 +1,6 @@
 -- `put_words`: each number has its text.
 use Prim.Native.Nat.{ℕ}
-use mathlib.Core.Path.{_≡_, refl}
+use mathlib.Core.Path.{_≡_}
 use mathlib.Core.List.{List}
 use borrow.Author.Needs.{needs}
 use borrow.Author.Tests.{ne-eqb}
@@ -13,33 +13,36 @@ use Rattle.reasons.proofs.put_words.Tie as tie
 told : {n k : ℕ} {before after : List ℕ} {at next : ℕ} → n ≡ k → Wrote (reason k) before at after next → Wrote (reason n) before at after next
 told e w = rw e w
 
-returns-15 : tie.Need-returns-15
+returns-16 : tie.Need-returns-16
 unfolding reason
-returns-15 c =
+returns-16 c =
     let r = c .before .before .before .before .before .match .rest in
     let n = c .before .before .before .before .before .before .before .args .number in
     rw (
-      ne-eqb n 1 (r .0 .0 .0 .0 .0 .0 .0 .0 .0 .0 .0 .0 .0 .1),
-      ne-eqb n 2 (r .0 .0 .0 .0 .0 .0 .0 .0 .0 .0 .0 .0 .1),
-      ne-eqb n 3 (r .0 .0 .0 .0 .0 .0 .0 .0 .0 .0 .0 .1),
-      ne-eqb n 4 (r .0 .0 .0 .0 .0 .0 .0 .0 .0 .0 .1),
-      ne-eqb n 5 (r .0 .0 .0 .0 .0 .0 .0 .0 .0 .1),
-      ne-eqb n 6 (r .0 .0 .0 .0 .0 .0 .0 .0 .1),
-      ne-eqb n 7 (r .0 .0 .0 .0 .0 .0 .0 .1),
-      ne-eqb n 8 (r .0 .0 .0 .0 .0 .0 .1),
-      ne-eqb n 9 (r .0 .0 .0 .0 .0 .1),
-      ne-eqb n 10 (r .0 .0 .0 .0 .1),
-      ne-eqb n 11 (r .0 .0 .0 .1),
-      ne-eqb n 12 (r .0 .0 .1),
-      ne-eqb n 13 (r .0 .1),
-      ne-eqb n 14 (r .1),
-    ) (c .before .before .put-text15 .ensures)
+      ne-eqb n 1 (r .0 .0 .0 .0 .0 .0 .0 .0 .0 .0 .0 .0 .0 .0 .1),
+      ne-eqb n 2 (r .0 .0 .0 .0 .0 .0 .0 .0 .0 .0 .0 .0 .0 .1),
+      ne-eqb n 3 (r .0 .0 .0 .0 .0 .0 .0 .0 .0 .0 .0 .0 .1),
+      ne-eqb n 4 (r .0 .0 .0 .0 .0 .0 .0 .0 .0 .0 .0 .1),
+      ne-eqb n 5 (r .0 .0 .0 .0 .0 .0 .0 .0 .0 .0 .1),
+      ne-eqb n 6 (r .0 .0 .0 .0 .0 .0 .0 .0 .0 .1),
+      ne-eqb n 7 (r .0 .0 .0 .0 .0 .0 .0 .0 .1),
+      ne-eqb n 8 (r .0 .0 .0 .0 .0 .0 .0 .1),
+      ne-eqb n 9 (r .0 .0 .0 .0 .0 .0 .1),
+      ne-eqb n 10 (r .0 .0 .0 .0 .0 .1),
+      ne-eqb n 11 (r .0 .0 .0 .0 .1),
+      ne-eqb n 12 (r .0 .0 .0 .1),
+      ne-eqb n 13 (r .0 .0 .1),
+      ne-eqb n 14 (r .0 .1),
+      ne-eqb n 20 (r .1),
+    ) (c .before .before .put-text16 .ensures)
 
 pub put-words-spec : {M : Type 1} → statement M
 unfolding reason
 put-words-spec =
     tie.close
     (tie.spec
+    (λ c. search needs)
+    (λ c κs. search needs)
     (λ c. search needs)
     (λ c κs. search needs)
     (λ c. search needs)
@@ -99,4 +102,6 @@ put-words-spec =
     (λ c. search needs)
     (λ c. told {k = 14} (c .before .before .before .before .before .match .keys14) (c .before .before .put-text14 .ensures))
     (λ c. search needs)
-    returns-15)
+    (λ c. told {k = 20} (c .before .before .before .before .before .match .keys15) (c .before .before .put-text15 .ensures))
+    (λ c. search needs)
+    returns-16)

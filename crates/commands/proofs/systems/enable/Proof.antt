@@ -7,7 +7,7 @@ use Rattle.model.specs.Stored.{systemsOf, memoryOf, stateOf}
 use Rattle.memory.specs.Put.{holding}
 use Rattle.model.specs.Checklist.{asksToSave}
 use Rattle.commands.specs.declared.changed.Deed.the-variants.{Enable}
-use Rattle.commands.specs.Done.{done, Fits, saving}
+use Rattle.commands.specs.Done.{done, Fits, saving, removing}
 use Rattle.commands.proofs.Asked.{found-is, found-kind}
 use Rattle.commands.proofs.Carried.{decides-refused, decides-accepted}
 use Rattle.commands.proofs.systems.enable.Statement.{statement}
@@ -20,7 +20,7 @@ returns c =
     decides-refused s (enable x) (j .judge-enable .result) (j .judge-enable .ensures (s .volatile) x y seen (stateOf s) level) (c .refused .result) (c .before .if1 .taken) (c .refused .ensures)
 
 returns-2 : tie.Need-returns-2
-unfolding changed done Fits saving asksToSave
+unfolding changed done Fits saving removing asksToSave
 returns-2 c =
     let t = c .before .before .before .before in
     let j = t .before in
@@ -33,7 +33,7 @@ returns-2 c =
     let enabled = c .before .enabling .ensures l kind ∙ (λ i. enabling (sym level i) (holding l (seen .enabled i)) (refOr (found i))) in
     decides-accepted s (enable x) (j .judge-enable .result) number (c .accepted .result) (Enable (c .before .enabling .result)) (t .if1 .left) (c .accepted .ensures)
     tt
-    (λ i. withVolatile (stateOf s) (holding l (enabled i))) refl
+    (λ i. withVolatile (stateOf s) (holding l (enabled i))) refl refl
 
 pub enable-spec : {M : Type 1} → statement M
 enable-spec =

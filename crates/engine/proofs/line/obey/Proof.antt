@@ -13,15 +13,15 @@ decide-requires c κs = fine-volatile _ (c .before .before .before .before .pre)
 
 applied-requires : tie.Need-applied-requires
 applied-requires c κs =
-    let start = c .before .before .before .before .before .before .before .before in
-    c .before .before .before .decide .ensures (start .args .s) refl refl refl (start .pre) .doable
+    let start = c .before .before .before .before .before .before .before .before .before in
+    (c .before .before .before .before .decide .ensures (start .args .s) refl refl refl (start .pre) .doable, c .settled .ensures)
 
 returns : tie.Need-returns
 returns c =
-    let start = c .before .before .before .before .before .before .before .before .before in
-    taken-answers {o = stepped (stateOf (start .args .s)) (start .args .line .now) (start .args .reply .now)} _
-    (c .before .before .before .before .decide .ensures (start .args .s) refl refl refl (start .pre))
-    (c .applied .ensures) (start .pre .shape)
+    let start = c .before .before .before .before .before .before .before .before .before .before in
+    taken-answers {o = stepped (stateOf (start .args .s)) (start .args .line .now) (start .args .reply .now)} _ _
+    (c .before .before .before .before .before .decide .ensures (start .args .s) refl refl refl (start .pre))
+    (c .before .settled .ensures) (c .applied .ensures) (start .pre .shape)
 
 pub obey-spec : {M : Type 1} → statement M
-obey-spec = tie.close (tie.spec decide-requires applied-requires (λ c. search needs) returns)
+obey-spec = tie.close (tie.spec decide-requires (λ c κs. search needs) applied-requires (λ c. search needs) returns)

@@ -12,24 +12,25 @@ decide-requires c κs = fine-volatile _ (c .before .before .before .before .pre 
 
 applied-requires : tie.Need-applied-requires
 applied-requires c κs =
-    let start = c .before .before .before .before .before .before .before .before .before .before .before .before .before in
-    c .before .before .before .before .before .before .before .before .decide .ensures (start .args .s) refl refl refl (start .pre .0) .doable
+    let start = c .before .before .before .before .before .before .before .before .before .before .before .before .before .before in
+    (c .before .before .before .before .before .before .before .before .before .decide .ensures (start .args .s) refl refl refl (start .pre .0) .doable, c .before .before .before .before .before .settled .ensures)
 
 returns : tie.Need-returns
 returns c =
-    let start = c .before .before .before .before .before .before .before .before .before .before .before .before .before .before in
+    let start = c .before .before .before .before .before .before .before .before .before .before .before .before .before .before .before in
     let a = start .args in
-    let step = c .before .before .before .before .before .before .before .before .before .decide in
+    let step = c .before .before .before .before .before .before .before .before .before .before .decide in
     let say = c .before .before .before .before .say in
     let kept : length (say .last .1 .1 .0) ≡ length (a .out .now) = search needs in
     answers-taken (a .k) (a .s) (start .pre .0) (a .line .now) (a .out .now) (start .pre .1) (step .result) _
-    (step .ensures (a .s) refl refl refl (start .pre .0)) _ _ (say .ensures) kept _ (c .before .due-of .ensures) (c .applied .ensures)
+    (step .ensures (a .s) refl refl refl (start .pre .0)) _ (c .before .before .before .before .before .before .settled .ensures) _ _ (say .ensures) kept _ (c .before .due-of .ensures) (c .applied .ensures)
 
 pub answer-line-spec : {M : Type 1} → statement M
 answer-line-spec =
     tie.close
     (tie.spec
     decide-requires
+    (λ c κs. search needs)
     (λ c κs. search needs)
     (λ c κs. search needs)
     applied-requires

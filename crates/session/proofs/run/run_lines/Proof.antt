@@ -6,9 +6,13 @@ use mathlib.Core.Path.{_≡_, refl, sym, ap, _∙_}
 use mathlib.Core.Logic.{inl, inr, ⊎-elim}
 use native.Mathlib.Omega.{arith}
 use borrow.Author.Needs.{needs}
+use borrow.Author.Tests.{eqb-true, eqb-false}
+use lib.Dec.{eqb}
 use lib.ListN.{length, take, drop}
-use Rattle.model.specs.Stored.{stateOf}
-use Rattle.commands.proofs.Deeds.{put-fits, remove-fits, applied-keep, applied-error, applied-put, applied-remove, applied-enable, applied-level, applied-save, applied-restore, applied-reset}
+use Rattle.model.specs.Stored.{memoryOf, stateOf}
+use Rattle.model.proofs.Basics.{or-split, or-false}
+use Rattle.commands.specs.Done.{numberIn}
+use Rattle.commands.proofs.Deeds.{put-fits, remove-fits, applied-keep, applied-error, applied-put, applied-remove, applied-held, applied-enable, applied-level, applied-save, applied-restore, applied-reset}
 use Rattle.lines.specs.Before.{before}
 use Rattle.lines.proofs.Laws.{end-inside}
 use Rattle.session.specs.Blocks.{Run, nothing}
@@ -41,31 +45,34 @@ sub-loop : tie.Need-sub-loop Inv-loop μ-loop
 sub-loop c = omega (arith, c .loop .inv .room, c .loop .inv .long)
 
 line-end-requires : tie.Need-line-end-requires Inv-loop μ-loop
-line-end-requires c κs = c .before .before .before .loop .inv .within
+line-end-requires c κs = c .before .loop .inv .within
 
 -- ---- a line that ends in the block
 
 -- the turn of the loop that it is found in
-abbrev turn : tie.Else2 Inv-loop μ-loop → tie.At-loop Inv-loop μ-loop
-turn c = c .before .before .before .before .before
+abbrev turn : tie.Else1 Inv-loop μ-loop → tie.At-loop Inv-loop μ-loop
+turn c = c .before .before .before .before
 
 -- and the start of all
-abbrev start : tie.Else2 Inv-loop μ-loop → tie.Start Inv-loop μ-loop
+abbrev start : tie.Else1 Inv-loop μ-loop → tie.Start Inv-loop μ-loop
 start c = turn c .before .before .before .before .before .before
 
 -- nothing is due there
-idle : (c : tie.Else2 Inv-loop μ-loop) →
+idle : (c : tie.Else1 Inv-loop μ-loop) →
     let l = turn c .loop in
     let a = start c .args in
     Run (a .k) (stateOf (a .s)) (a .block .now) (a .out .now) (l .out) (stateWith (l .volatile) (l .permanent) (l .level) (l .error)) (l .used) (l .written) nothing
 idle c =
     let l = turn c .loop in
-    let none = not-due (l .due) (sym (c .before .before .before .is-due .ensures) ∙ c .before .before .if1 .left) in
+    let none = not-due (l .due) (sym (c .before .is-due .ensures) ∙ or-false _ _ (c .if1 .left) .0) in
     run-idle none (l .inv)
 
 -- its end lies within
-inside : (c : tie.Else2 Inv-loop μ-loop) → c .before .line-end .result < length (start c .args .block .now)
-inside c = omega (arith, end-inside _ _ _ (turn c .loop .inv .within) (c .before .line-end .ensures), c .if2 .left)
+inside : (c : tie.Else1 Inv-loop μ-loop) → c .before .before .line-end .result < length (start c .args .block .now)
+inside c =
+    let end = c .before .before .line-end in
+    let short : end .result ≡ length (start c .args .block .now) → ⊥ = eqb-false _ _ (or-false (c .before .is-due .result) _ (c .if1 .left) .1) in
+    omega (arith, end-inside _ _ _ (turn c .loop .inv .within) (end .ensures), short)
 
 part-line-end : tie.Need-part-line-end Inv-loop μ-loop
 part-line-end c = omega (arith, inside c)
@@ -78,42 +85,49 @@ decide-requires c κs = fine-volatile _ (turn (c .before .before) .loop .inv .fi
 
 sub-say : tie.Need-sub-say Inv-loop μ-loop
 sub-say c =
-    let l = turn (c .before .before .before .before .before .before .before) .loop in
-    omega (arith, c .before .before .before .out .given .1, l .inv .room, l .inv .long)
+    let l = turn (c .before .before .before .before .before .before .before .before) .loop in
+    omega (arith, c .before .before .before .before .out .given .1, l .inv .room, l .inv .long)
 
 say-requires : tie.Need-say-requires Inv-loop μ-loop
 say-requires c κs =
-    let p = c .before .before .before .before .before .before .before .before in
+    let p = c .before .before .before .before .before .before .before .before .before in
     let l = turn p .loop in
-    rw (rest-long (withRest (l .out) (l .written) (c .before .before .before .before .before .decide .last .1 .1 .1 .1 .0)) (l .written))
-    (omega (arith, c .before .before .before .before .out .given .1, p .before .before .before .before .loop-test .taken))
+    rw (rest-long (withRest (l .out) (l .written) (c .before .before .before .before .before .before .decide .last .1 .1 .1 .1 .0)) (l .written))
+    (omega (arith, c .before .before .before .before .before .out .given .1, p .before .before .before .loop-test .taken))
 
 -- ---- its turn
 
 -- what was decided is said
-abbrev ended : tie.After-slice-known3 Inv-loop μ-loop → tie.Else2 Inv-loop μ-loop
-ended c = c .before .before .before .before .before .before .before .before .before .before .before
+abbrev ended : tie.After-slice-known3 Inv-loop μ-loop → tie.Else1 Inv-loop μ-loop
+ended c = c .before .before .before .before .before .before .before .before .before .before .before .before
 
 said : (c : tie.After-slice-known3 Inv-loop μ-loop) →
     let p = ended c in
     let l = turn p .loop in
     let a = start p .args in
-    let step = c .before .before .before .before .before .before .before .before .decide in
+    let step = c .before .before .before .before .before .before .before .before .before .decide in
     Turned (a .k) (stateOf (a .s)) (a .block .now) (a .out .now)
     (withRest (withRest (l .out) (l .written) (step .last .1 .1 .1 .1 .0)) (l .written) (c .before .before .say .last .1 .1 .0))
-    (stateWith (l .volatile) (l .permanent) (l .level) (l .error)) (step .result .decision) (p .before .line-end .result + 1) (l .written + c .before .before .say .result) (c .before .before .before .before .due-of .result)
+    (stateWith (l .volatile) (l .permanent) (l .level) (l .error)) (step .result .decision) (p .before .before .line-end .result + 1) (l .written + c .before .before .say .result) (c .before .before .before .before .due-of .result)
 said c =
     let p = ended c in
     let l = turn p .loop in
     let a = start p .args in
-    let step = c .before .before .before .before .before .before .before .before .decide in
-    let end = p .before .line-end in
+    let step = c .before .before .before .before .before .before .before .before .before .decide in
+    let end = p .before .before .line-end in
     let s = stateWith (l .volatile) (l .permanent) (l .level) (l .error) in
     let size : end .result - l .used ≡ before (drop (l .used) (a .block .now)) = omega (arith, end .ensures) in
     turned (a .k) (stateOf (a .s)) (a .block .now) (a .out .now) (l .out) s (l .used) (l .written) (idle p)
     (end .result) (end .ensures) (inside p) _ (ap (λ (k : ℕ). take k (drop (l .used) (a .block .now))) size)
-    (rw (rest-long (l .out) (l .written)) (omega (arith, p .before .before .before .before .loop-test .taken)))
-    (step .result) _ (step .ensures s refl refl refl (l .inv .fine)) (c .before .before .before .before .before .before .before .out .given .0) _ _ (c .before .before .say .ensures) (c .before .out2 .given .0) _ (c .before .before .before .before .due-of .ensures)
+    (rw (rest-long (l .out) (l .written)) (omega (arith, p .before .before .before .loop-test .taken)))
+    (step .result) _ (step .ensures s refl refl refl (l .inv .fine)) (c .before .before .before .before .before .before .before .before .out .given .0)
+    _ (c .before .before .before .before .before .settled .ensures) _ _ (c .before .before .say .ensures) (c .before .out2 .given .0) _ (c .before .before .before .before .due-of .ensures)
+
+-- under the number that was settled
+settled-so : (c : tie.After-slice-known3 Inv-loop μ-loop) →
+    c .before .before .before .before .before .settled .result
+    ≡ numberIn (c .before .before .before .before .before .before .before .before .before .decide .result .decision) (memoryOf (turn (ended c) .loop .permanent))
+settled-so c = c .before .before .before .before .before .settled .ensures
 
 add-written : tie.Need-add-written Inv-loop μ-loop
 add-written c = record { fits = omega (arith, said c .room, start (ended c) .good .1 .1 .1 .0 .0) }
@@ -124,8 +138,8 @@ add-used c = record { fits = omega (arith, inside (ended c), start (ended c) .go
 -- less is left of the block
 less : (c : tie.After-slice-known3 Inv-loop μ-loop) →
     let block = start (ended c) .args .block .now in
-    length block - (ended c .before .line-end .result + 1) < length block - turn (ended c) .loop .used
-less c = omega (arith, inside (ended c), ended c .before .line-end .ensures)
+    length block - (ended c .before .before .line-end .result + 1) < length block - turn (ended c) .loop .used
+less c = omega (arith, inside (ended c), ended c .before .before .line-end .ensures)
 
 -- ---- the end
 
@@ -138,9 +152,10 @@ returns c =
       run = c .before .before .loop .inv;
       stops = λ h. ⊎-elim
           (λ w. inl (w .left))
-          (⊎-elim
-          (λ w. inr (some-due (c .before .before .loop .due) (sym (w .1 .ensures) ∙ w .2 .taken)))
-          (λ w. absurd (omega (arith, h, w .3 .ensures, w .4 .taken))))
+          (λ w. ⊎-elim
+          (λ e. inr (some-due (c .before .before .loop .due) (sym (w .2 .ensures) ∙ e)))
+          (λ e. absurd (omega (arith, h, w .1 .ensures, eqb-true (w .1 .result) _ e)))
+          (or-split (w .2 .result) (eqb (w .1 .result) _) (w .3 .taken)))
           (c .before .loop-test .came);
     })
 
@@ -153,8 +168,8 @@ run-lines-spec =
     (λ c κs. search needs)
     loop-holds
     sub-loop
-    (λ c κs. search needs)
     line-end-requires
+    (λ c κs. search needs)
     (λ c. search needs)
     (λ c. search needs)
     part-line-end
@@ -162,6 +177,7 @@ run-lines-spec =
     (λ c. search needs)
     (λ c. search needs)
     decide-requires
+    (λ c κs. search needs)
     (λ c κs. search needs)
     sub-say
     (λ c. search needs)
@@ -180,9 +196,11 @@ run-lines-spec =
     (λ c. less (c .before .before .before .before))
     (λ c. let t = said (c .before .before .before .before) in t .next (applied-put (c .before .before .deed2 .given .1) (t .doable) _ (c .put-at .ensures)))
     (λ c. search needs)
-    (λ c κs. remove-fits (said (c .before .before .before) .doable) (c .before .deed3 .given .1))
+    (λ c κs. remove-fits (said (c .before .before .before .before) .doable) (c .before .before .deed3 .given .1))
+    (λ c. less (c .before .before .before .before .before))
+    (λ c. said (c .before .before .before .before .before) .next (applied-remove (c .before .before .before .deed3 .given .1) (settled-so (c .before .before .before .before .before)) (c .before .if2 .taken) _ (c .removed-at .ensures)))
     (λ c. less (c .before .before .before .before))
-    (λ c. said (c .before .before .before .before) .next (applied-remove (c .before .before .deed3 .given .1) _ (c .removed-at .ensures)))
+    (λ c. said (c .before .before .before .before) .next (applied-held (c .before .before .deed3 .given .1) (settled-so (c .before .before .before .before)) (c .if2 .left)))
     (λ c. search needs)
     (λ c. less (c .before .before .before))
     (λ c. said (c .before .before .before) .next (applied-enable (c .before .deed4 .given .1)))
