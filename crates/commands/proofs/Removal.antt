@@ -55,19 +55,20 @@ module _ (st : State) (a : List ℕ) where
   abbrev m : Memory
   m = st .volatile
 
-  abbrev rungs : ℕ
-  rungs = first (removalRungs (st .level) m a)
+  -- the number that the volatile memory tells
+  abbrev told : ℕ
+  told = first (removalRungs (st .level) m a)
 
-  pub refused-by-volatile : (rungs ≡ 0 → ⊥) → rungs ≡ first (changeLadder st m (remove a))
+  pub refused-by-volatile : (told ≡ 0 → ⊥) → told ≡ first (changeLadder st m (remove a))
   unfolding changeLadder
   refused-by-volatile z = refused-before _ _ _ _ (nameInUse (st .permanent) a) z
 
-  left-to-permanent : rungs ≡ 0 → cond (nameInUse (st .permanent) a) 20 0 ≡ first (changeLadder st m (remove a))
+  left-to-permanent : told ≡ 0 → cond (nameInUse (st .permanent) a) 20 0 ≡ first (changeLadder st m (remove a))
   unfolding changeLadder
   left-to-permanent z = left-to-twenty _ _ _ _ (nameInUse (st .permanent) a) z
 
   -- what may be removed is a user system
-  pub remove-user : rungs ≡ 0 → isUser m a ≡ true
+  pub remove-user : told ≡ 0 → isUser m a ≡ true
   unfolding inOrder applies all any
   remove-user e =
       let off = none-applies (drop 2 precedence) (removalRungs (st .level) m a) refl refl e in

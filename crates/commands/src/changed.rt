@@ -102,9 +102,8 @@ fn needed(saved: Memory, gone: System) -> bool
     name_used(saved, name)
 }
 
-// The number of a decision, once the permanent memory has been looked at. Only a removal is looked up there: where a decision is made the permanent memory is
-// not at hand, since it would be copied for every line. (For the same reason the look is a function of its own, `needed`: the compiler copies a memory where
-// the function that searches it begins, with what was put into that function.)
+// The number of a decision, once the permanent memory has been looked at; only a removal is looked up there. A decision is made without that memory, since to
+// hand it over would copy it for every line. The search is left to `needed` for the same reason: as a part of this function it copies the memory before the test.
 pub fn settled(saved: Memory, d: Decision) -> u8
     ensures { λ r. ⌜ r ≡ numberIn d (memoryOf saved) ⌝ }
 {
