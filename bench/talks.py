@@ -21,8 +21,6 @@ WORDS = {3: b"unreadable", 4: b"no command", 5: b"malformed", 6: b"beyond", 7: b
 # Refused with each of the numbers 3 to 13, between lines that are accepted; for 20 something must have been saved (NEEDED).
 REFUSED = b"\n".join([b"K" * 121, b"FOO", b"KSD", b"KSD A X 2001", b"KRM A", b"KSD ZERO", b"KSB B", b"KSD A", b"KSD B", b"KLN A PI_BASE", b"KLN A B", b"KEN A",
                       b"KRM B", b"KEN ZERO", b"KLN B A", b"WPA", b"WPA SKS SKS", b"ERR?"] + [b"KSD N%d" % n for n in range(15)] + [b"ERR?", b""])
-
-
 NEEDED = b"KSD A\nKEN A\nWPA SKS\nKEN ZERO\nKRM A\n"
 
 

@@ -9,7 +9,7 @@ use lib.Dec.{eqb}
 use lib.ListN.{drop}
 use Rattle.model.specs.declared.System.{System as StoredSystem}
 use Rattle.model.specs.declared.State.{State as StoredState}
-use Rattle.model.specs.Lists.{all, any}
+use Rattle.model.specs.Lists.{all, any, kept}
 use Rattle.model.specs.Memory.{Memory, State, placeNamed, isUser}
 use Rattle.model.specs.Use.{nameInUse}
 use Rattle.model.specs.Words.{reserved}
@@ -27,7 +27,7 @@ use Rattle.commands.specs.declared.changed.Deed.the-variants.{Remove}
 use Rattle.commands.specs.declared.changed.Decision.{Decision}
 use Rattle.commands.specs.Done.{done, Fits, saving, removing, numberIn, outcomeOf, Decides}
 use Rattle.commands.specs.Obeyed.{obeyed}
-use Rattle.commands.specs.Subject.{removalRungs}
+use Rattle.commands.specs.Subject.{withoutTwenty}
 use Rattle.commands.proofs.Carried.{obeyed-refused, obeyed-accepted}
 
 -- ---- 20 behind the four numbers of the volatile memory
@@ -57,26 +57,26 @@ module _ (st : State) (a : List ℕ) where
 
   -- the number that the volatile memory tells
   abbrev told : ℕ
-  told = first (removalRungs (st .level) m a)
+  told = first (withoutTwenty (changeLadder st m (remove a)))
 
   pub refused-by-volatile : (told ≡ 0 → ⊥) → told ≡ first (changeLadder st m (remove a))
-  unfolding changeLadder
+  unfolding changeLadder kept
   refused-by-volatile z = refused-before _ _ _ _ (nameInUse (st .permanent) a) z
 
   left-to-permanent : told ≡ 0 → cond (nameInUse (st .permanent) a) 20 0 ≡ first (changeLadder st m (remove a))
-  unfolding changeLadder
+  unfolding changeLadder kept
   left-to-permanent z = left-to-twenty _ _ _ _ (nameInUse (st .permanent) a) z
 
   -- what may be removed is a user system
   pub remove-user : told ≡ 0 → isUser m a ≡ true
-  unfolding inOrder applies all any
+  unfolding changeLadder kept inOrder applies all any
   remove-user e =
-      let off = none-applies (drop 2 precedence) (removalRungs (st .level) m a) refl refl e in
+      let off = none-applies (drop 2 precedence) (withoutTwenty (changeLadder st m (remove a))) refl refl e in
       present-user m a (or-false (absent m a) _ (off 7) .0) (or-false (reserved a) _ (off 8) .0)
 
 -- ---- what is decided
 
-module _ (s : StoredState) (a : List ℕ) (z : first (removalRungs (s .level) (memoryOf (s .volatile)) a) ≡ 0) (k : ℕ) (x : StoredSystem)
+module _ (s : StoredState) (a : List ℕ) (z : first (withoutTwenty (changeLadder (stateOf s) (memoryOf (s .volatile)) (remove a))) ≡ 0) (k : ℕ) (x : StoredSystem)
     (place : k ≡ placeNamed (systemsOf (s .volatile)) a) (name : systemOf x .name ≡ a) where
   abbrev st′ : State
   st′ = stateOf s

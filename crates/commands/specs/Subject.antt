@@ -1,12 +1,12 @@
 -- What one look at a memory tells of two names.
 use mathlib.Core.Path.{_≡_}
 use lib.ListN.{length}
-use Rattle.model.specs.Base.{ℕ, List, [], _∷_, true}
+use Rattle.model.specs.Base.{ℕ, List, true, not, eqb}
 use Rattle.model.specs.declared.Memory.{Memory as StoredMemory}
 use Rattle.model.specs.Memory.{Memory, State, Meant, meant, find, systemAt}
 use Rattle.model.specs.Request.{Change}
-use Rattle.model.specs.Use.{usedAt}
-use Rattle.model.specs.Refusals.{Rung, absent, locked, first, changeLadder}
+use Rattle.model.specs.Lists.{kept}
+use Rattle.model.specs.Refusals.{Rung, absent, first, changeLadder}
 use Rattle.model.specs.Words.{reserved}
 use Rattle.model.specs.Told.{orNumber}
 use Rattle.model.specs.Stored.{systemOf, systemsOf, memoryOf, nameShaped}
@@ -37,10 +37,14 @@ pub record Sees (m : StoredMemory) (a b : List ℕ) (k : Looked) : Type 0 where
   pub stored : m .count ≡ length (systemsOf m)
   pub enabled : k .enabled ≡ m .enabled
 
--- [Errors 7 to 11] what the volatile memory m tells of a removal, at this level; 20 is left
-abbrev pub removalRungs : ℕ → Memory → List ℕ → List Rung
-removalRungs level m a = (7, absent m a) ∷ (8, reserved a) ∷ (9, locked level (meant m a .group)) ∷ (11, usedAt m (meant m a .place)) ∷ []
-
 -- [Errors, end] the number of the change's refusal in this memory, at this level
 abbrev pub NumberOf : ℕ → Memory → Change → ℕ → Type 0
 NumberOf level m c n = (st : State) → st .level ≡ level → n ≡ first (changeLadder st m c)
+
+-- [02 §9] the ladder without 20, which the permanent memory tells
+abbrev pub withoutTwenty : List Rung → List Rung
+withoutTwenty rungs = kept (λ (r : Rung). not (eqb (r .0) 20)) rungs
+
+-- [Errors, end; 02 §9] the number of the change's refusal as far as this memory tells it, at this level
+abbrev pub NumberButTwenty : ℕ → Memory → Change → ℕ → Type 0
+NumberButTwenty level m c n = (st : State) → st .level ≡ level → n ≡ first (withoutTwenty (changeLadder st m c))

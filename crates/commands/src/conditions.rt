@@ -92,7 +92,7 @@ pub fn used_in(links: Links, e: Enabled, place: u8) -> bool
     used(&preds[..count], e, place)
 }
 
-// The name is that of a user system of the memory, and it is in use there.
+// The name is that of a user system of the memory, and it is in use there. Where there is none, no links are laid flat.
 pub fn name_used(m: Memory, n: Name) -> bool
     ensures { λ r. ⌜ r ≡ nameInUse (memoryOf m) (bytesOf n) ⌝ }
 {

@@ -13,14 +13,12 @@ use model::Kind;
 use model::Memory;
 use model::Turns;
 use model::Vec3;
-ghost use mathlib.Core.Path.{_≡_};
 ghost use mathlib.Core.List.{List};
 ghost use Prim.Native.Nat.{ℕ, _≤_};
 ghost use Rattle.model.specs.Limits.{maxSystems};
-ghost use Rattle.model.specs.Request.{define, link, copy, enable};
-ghost use Rattle.model.specs.Refusals.{first};
+ghost use Rattle.model.specs.Request.{define, link, copy, remove, enable};
 ghost use Rattle.model.specs.Stored.{memoryOf};
-ghost use Rattle.commands.specs.Subject.{Sees, NumberOf, removalRungs};
+ghost use Rattle.commands.specs.Subject.{Sees, NumberOf, NumberButTwenty};
 
 // A definition of the first name.
 pub fn judge_define(k: Looked, level: u8, kind: Kind) -> u8
@@ -89,7 +87,7 @@ pub fn judge_copy(k: Looked, level: u8) -> u8
 // The removal of the first name, as far as the volatile memory tells.
 pub fn judge_remove(k: Looked, level: u8) -> u8
     requires { ⌜ k .links .count ≤ maxSystems ⌝ }
-    ensures { λ r. ⌜ ((m : Memory) (x y : List ℕ) → Sees m x y k → r ≡ first (removalRungs level (memoryOf m) x)) ⌝ }
+    ensures { λ r. ⌜ ((m : Memory) (x y : List ℕ) → Sees m x y k → NumberButTwenty level (memoryOf m) (remove x) r) ⌝ }
 {
     let a = k.first;
     let group = a.group;

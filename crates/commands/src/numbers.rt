@@ -13,7 +13,7 @@ ghost use Rattle.model.specs.Refusals.{Rung, first};
 ghost use Rattle.commands.specs.Rungs.{rungsOf};
 
 // Which conditions hold; the order in which they are tried is the definitions' `precedence`. A number that a change does not know has a condition that
-// is false.
+// is false. 20 is none of these: `changed::settled` gives it, last.
 pub struct Rungs {
     pub absent: bool,
     pub reserved: bool,

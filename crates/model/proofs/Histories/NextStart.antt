@@ -5,7 +5,7 @@ use mathlib.Core.List.{List, [], _∷_}
 use mathlib.Core.Bool.{Bool, true, false, cond, not, _&&_}
 use mathlib.Core.Logic.{⊎-elim}
 use native.Mathlib.Omega.{arith}
-use borrow.Author.Tests.{eq-eqb, not-true}
+use borrow.Author.Tests.{not-true}
 use lib.ListN.{length}
 use Rattle.model.specs.Types.{StoredState}
 use Rattle.model.specs.Limits.{bufferLimit}
@@ -30,7 +30,7 @@ use Rattle.model.proofs.Memories.Fine.{Fine, state-of, fine-of}
 use Rattle.model.proofs.Memories.Named.{find-user, present-user}
 use Rattle.model.proofs.Memories.Found.{user-name-free}
 use Rattle.model.proofs.Ladder.First.{Clear, clear-of}
-use Rattle.model.proofs.Ladder.Refusing.{step-fine, step-number, judged-taken, restart-fine}
+use Rattle.model.proofs.Ladder.Refusing.{step-number, step-taken, restart-fine}
 use Rattle.model.proofs.Ladder.Exact.{number-exact}
 use Rattle.model.proofs.Edits.Removing.{removed-name}
 use Rattle.model.proofs.Edits.Removed.{removal-mends}
@@ -39,12 +39,6 @@ use Rattle.model.proofs.Histories.Under.{by-frames, held-fast}
 use Rattle.model.proofs.Histories.Saved.{saved-line, image-back}
 use Rattle.model.proofs.Histories.Stored.{line-state, line-number, calls-held}
 use Rattle.model.proofs.Histories.Switched.{call-permanent, permanent-back, stored-back}
-
--- an accepted line is carried out
-carried : (st : State) → wellFormed st ≡ true → (line b : List ℕ) (r : Reading) → reading line ≡ r → stepped st line b .number ≡ 0 → stepped st line b ≡ carriedOut st r b
-carried st w line b r e z =
-    step-fine st line b w ∙ judged-taken st (refusal st line b) (reading line) b (eq-eqb _ 0 (sym (step-number st line b w) ∙ z))
-    ∙ ap (λ (x : Reading). carriedOut st x b) e
 
 -- ---- what is refused
 
@@ -167,7 +161,7 @@ module _ (st : State) (w : wellFormed st ≡ true) (line b a : List ℕ) (r : As
 
   removed : st′ ≡ withVolatile st (removedAt v (placeNamed (v .systems) a))
   unfolding carriedOut next changed
-  removed = ap (λ (o : Outcome). o .state) (carried st w line b (asks (change (remove a))) r z)
+  removed = ap (λ (o : Outcome). o .state) (step-taken st w line b (asks (change (remove a))) r accepted)
 
   kept : st′ .permanent ≡ st .permanent
   kept = ap (λ (t : State). t .permanent) removed
@@ -259,7 +253,7 @@ module _ (st : State) (w : wellFormed st ≡ true) (wpa b : List ℕ) (s : asksT
   -- the volatile memory in both places, and all else as it was
   saved : after ≡ record { volatile = st .volatile; permanent = st .volatile; level = st .level; error = st .error }
   unfolding carriedOut next changed
-  saved = ap (λ (o : Outcome). o .state) (carried st w wpa b (asks (change save)) (asked-save (reading wpa) s) z)
+  saved = ap (λ (o : Outcome). o .state) (step-taken st w wpa b (asks (change save)) (asked-save (reading wpa) s) (sym (step-number st wpa b w) ∙ z))
 
   volatile-is : after .volatile ≡ st .volatile
   volatile-is = ap (λ (t : State). t .volatile) saved

@@ -16,7 +16,7 @@ use Rattle.model.specs.Refusals.{first, short, unreadable, refusal, ladd
 use Rattle.model.specs.Reply.{listed, reply}
 use Rattle.model.specs.Machine.{Outcome, answered, written, carriedOut, stepped}
 use Rattle.model.specs.Demand.{Replies}
-use Rattle.model.proofs.Ladder.Refusing.{step-fine, step-number, judged-refused, judged-taken}
+use Rattle.model.proofs.Ladder.Refusing.{step-fine, step-number, step-taken, judged-refused}
 
 module _ (st : State) (w : wellFormed st ≡ true) (line : List ℕ) where
   pub too-short : (b : List ℕ) → length b < bufferLimit → stepped st line b .number ≡ 2
@@ -30,7 +30,7 @@ module _ (st : State) (w : wellFormed st ≡ true) (line : List ℕ) where
 
     pub query-taken : (b : List ℕ) → refusal st line b ≡ 0 → stepped st line b ≡ answered st (listed (st .volatile) q) b
     unfolding carriedOut next reply
-    query-taken b z = step-fine st line b w ∙ judged-taken st (refusal st line b) (reading line) b (rw z) ∙ ap (λ r. carriedOut st r b) asked
+    query-taken b z = step-taken st w line b (asks (list q)) asked z
 
     -- a query that nothing but the buffer can refuse
     pub query-replies : unreadable line ≡ false → first (queryLadder (st .volatile) q) ≡ 0 → Replies st line (listed (st .volatile) q)

@@ -5,7 +5,7 @@ use mathlib.Core.Bool.{Bool, true, false}
 use mathlib.Core.List.{List, []}
 use mathlib.Core.Logic.{⊎-elim}
 use native.Mathlib.Omega.{arith}
-use borrow.Author.Tests.{eqb-true, eqb-false}
+use borrow.Author.Tests.{eq-eqb, eqb-true, eqb-false}
 use lib.Dec.{eqb}
 use Rattle.model.specs.Memory.{State, restarted}
 use Rattle.model.specs.WellFormed.{wellFormed}
@@ -57,6 +57,11 @@ judged-number st n r b = go (eqb n 0) refl
 
 pub step-number : (st : State) (line b : List ℕ) → wellFormed st ≡ true → stepped st line b .number ≡ refusal st line b
 step-number st line b w = ap (λ (o : Outcome). o .number) (step-fine st line b w) ∙ judged-number st (refusal st line b) (reading line) b
+
+-- a line that nothing refuses is carried out, as what it is read as
+pub step-taken : (st : State) → wellFormed st ≡ true → (line b : List ℕ) (r : Reading) → reading line ≡ r → refusal st line b ≡ 0 → stepped st line b ≡ carriedOut st r b
+step-taken st w line b r e z =
+    step-fine st line b w ∙ judged-taken st (refusal st line b) (reading line) b (eq-eqb (refusal st line b) 0 z) ∙ ap (λ (x : Reading). carriedOut st x b) e
 
 -- a number of a line
 pub refusal-of-line : (st : State) (line b : List ℕ) → (refusal st line b ≡ 0 → ⊥) → ofLine? (refusal st line b) ≡ true

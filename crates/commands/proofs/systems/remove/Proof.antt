@@ -2,10 +2,8 @@ use mathlib.Core.Path.{_≡_, sym, ap, _∙_}
 use borrow.Author.Needs.{needs}
 use Rattle.model.specs.Memory.{System, systemAt}
 use Rattle.model.specs.Request.{remove}
-use Rattle.model.specs.Refusals.{first}
 use Rattle.model.specs.Stored.{systemOf, systemsOf, memoryOf, stateOf}
 use Rattle.model.proofs.Memories.Named.{user-place, place-name}
-use Rattle.commands.specs.Subject.{removalRungs}
 use Rattle.commands.proofs.Asked.{place-is}
 use Rattle.commands.proofs.Carried.{decides-refused}
 use Rattle.commands.proofs.Removal.{refused-by-volatile, remove-user, decides-removal}
@@ -16,7 +14,7 @@ returns : tie.Need-returns
 returns c =
     let j = c .before .before in
     λ s x y level seen.
-    let number = j .judge-remove .ensures (s .volatile) x y seen ∙ (λ i. first (removalRungs (sym level i) (memoryOf (s .volatile)) x)) in
+    let number = j .judge-remove .ensures (s .volatile) x y seen (stateOf s) level in
     decides-refused s (remove x) (j .judge-remove .result) (number ∙ refused-by-volatile (stateOf s) x (λ z. c .before .if1 .taken (number ∙ z))) (c .refused .result) (c .before .if1 .taken) (c .refused .ensures)
 
 returns-2 : tie.Need-returns-2
@@ -26,7 +24,7 @@ returns-2 c =
     λ s x y level seen.
     let a = j .before .args in
     let m = memoryOf (s .volatile) in
-    let number = j .judge-remove .ensures (s .volatile) x y seen ∙ (λ i. first (removalRungs (sym level i) m x)) in
+    let number = j .judge-remove .ensures (s .volatile) x y seen (stateOf s) level in
     let z = sym number ∙ t .if1 .left in
     let place = place-is m x _ (seen .first) in
     let at = user-place m x (remove-user (stateOf s) x z) in
