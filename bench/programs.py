@@ -1,6 +1,7 @@
 """The programs that are compared: ksrun, ksscript, ksbench and kssheet of this repository, and the Rust twin of all but ksbench."""
 import os
 import pathlib
+import re
 import subprocess
 import sys
 import tempfile
@@ -42,3 +43,17 @@ def twin(mode="run"):
 def answers(command, text):
     """All that a program prints for an input in one piece."""
     return subprocess.run(command, input=text, stdout=subprocess.PIPE, check=True).stdout
+
+
+# What ksrun prints behind its last answer; no answer has such a line.
+TALLY = re.compile(rb"(?m)^T \d+ \d+\n(?:R \d+ \d+\n)*\Z")
+
+
+def untallied(said):
+    """The answers of ksrun or its twin alone."""
+    return TALLY.sub(b"", said)
+
+
+def ksrun_answers(text):
+    """What ksrun answers, without the tally: what ksbench answers too."""
+    return untallied(answers(ksrun(), text))

@@ -10,7 +10,7 @@ import termios
 
 from inputs import random_lines
 from kit import LISTS, WAIT, ask, ended, expect, folder, image_of, look, new, run, scripted, started
-from programs import answers, ksrun
+from programs import ksrun_answers
 
 SESSIONS = 300
 FACTORY = bytes.fromhex("010000000000")
@@ -25,8 +25,8 @@ NEEDED = b"KSD A\nKEN A\nWPA SKS\nKEN ZERO\nKRM A\n"
 
 
 def refusals():
-    told = answers(ksrun(), REFUSED)
-    expect("these lines are refused with each number", {int(n) for n in re.findall(rb"^E (\d+)$", told + answers(ksrun(), NEEDED), re.M)}, set(WORDS))
+    told = ksrun_answers(REFUSED)
+    expect("these lines are refused with each number", {int(n) for n in re.findall(rb"^E (\d+)$", told + ksrun_answers(NEEDED), re.M)}, set(WORDS))
     at, image = folder()
     expect("refusals in a pipe: nothing is added, nothing saved", (run(image, text=REFUSED), look(at)), ((told, new(image)), {}))
     for line in (b"WPA", b"WPA SKS SKS", b"WPA 1", b"WPA SKS".ljust(121), b"XWPA SKS", b"\tWPA SKS", b"RPA SKS", b"DPA SKS"):
@@ -93,7 +93,7 @@ def sessions():
         told, images, lists = scripted(text, b"N" if before is None else b"I " + before.hex().encode())
         after = images[-1] if images else before
         wanted = (told, new(image) if before is None else b""), {} if after is None else {"image": after}, lists, told
-        got = run(image, text=text), held_in(at), run(image, text=LISTS)[0], answers(ksrun(), text) if before is None else told
+        got = run(image, text=text), held_in(at), run(image, text=LISTS)[0], ksrun_answers(text) if before is None else told
         if got != wanted:
             expect("session %d, %r, from %s" % (n, text, before), got, wanted)
         saves, without = saves + len(images), without + (after is None)
@@ -176,7 +176,7 @@ def first_words(shown):
 def terminals():
     at, image = folder()
     image.write_bytes(FACTORY)
-    told = answers(ksrun(), REFUSED)
+    told = ksrun_answers(REFUSED)
     shown = pasted(image, REFUSED)[0]
     expect("pasted at a terminal: each refusal has its reason behind it", first_words(shown), explained(told))
     expect("a reason in words", re.findall(rb"^11: .*$", shown, re.M), [b"11: in use: it is enabled, or an enabled system hangs on it"])

@@ -73,7 +73,7 @@ given-nothing k s = ap (λ (x : Fed State Act). x .held) (sym (fed-nothing (acti
 -- ---- a session t that holds what s gives for a block up to a place, and what was fed of the rest
 
 module _ (k : Manner) (s : Session) (block : List ℕ) (t : Session) (at : ℕ) (held : heldOf t ≡ given k s (take at block) .held) (before after : List ℕ) (f : StoredFed)
-    (feeds : Feeds k (t .state) (heldOf t .line) (rest block at) before after f) (end : ℕ) (e : end ≡ at + f .used) where
+    (feeds : Feeds k (t .state) (t .tally) (heldOf t .line) (rest block at) before after f) (end : ℕ) (e : end ≡ at + f .used) where
   abbrev part : List ℕ
   part = take (end - at) (drop at block)
 

@@ -1,4 +1,4 @@
-// ksrun at a terminal or in a pipe: every complete line is answered before more input is waited for.
+// ksrun at a terminal or in a pipe: every complete line is answered before more input is waited for, and behind the last answer comes the day's tally.
 use libc::STDERR_FILENO;
 use libc::STDIN_FILENO;
 use libc::STDOUT_FILENO;
@@ -7,11 +7,14 @@ use session::feed::Session;
 use session::feed::begin;
 use session::feed::feed;
 use session::feed::finish;
+use tally::put_tally;
 ghost use mathlib.Core.Path.{_≡_};
 ghost use Prim.Native.Nat.{_≤_};
 ghost use lib.ListN.{length};
 ghost use Rattle.model.specs.Limits.{bufferLimit};
-ghost use Rattle.session.specs.Feed.{ended};
+ghost use Rattle.model.specs.Tally.{tallyText};
+ghost use Rattle.tally.specs.Counts.{tallyOf, longestTally};
+ghost use Rattle.session.specs.Feed.{ended, closing};
 ghost use Rattle.session.specs.Blocks.{heldOf, Between};
 ghost use Rattle.console.specs.Serve.{given, Serves};
 
@@ -21,7 +24,7 @@ struct Served {
     ok: bool,
 }
 
-// Standard output gets what the session prints for a part of its input, and nothing else.
+// Standard output gets the session's answers to a part of its input, and nothing else.
 fn write_answers(s: Session, part: &[u8], answers: &[u8]) -> bool
     requires { ⌜ now answers ≡ given s (now part) .output ⌝ }
 {
@@ -35,7 +38,21 @@ fn write_last(s: Session, answers: &[u8]) -> bool
     io::write_all(STDOUT_FILENO, answers)
 }
 
-// ksrun has no file, and adds nothing to its answers.
+// And for the tally behind it, in which that line is counted too.
+fn write_tally(s: Session, text: &[u8]) -> bool
+    requires { ⌜ now text ≡ tallyText (closing (tallyOf (s .tally)) (heldOf s)) ⌝ }
+{
+    io::write_all(STDOUT_FILENO, text)
+}
+
+// Where no more can be read: the tally of what was answered.
+fn write_tally_until_now(s: Session, text: &[u8]) -> bool
+    requires { ⌜ now text ≡ tallyText (tallyOf (s .tally)) ⌝ }
+{
+    io::write_all(STDOUT_FILENO, text)
+}
+
+// ksrun has no file, and explains nothing.
 fn plainly() -> Manner {
     Manner {
         storing: false,
@@ -68,6 +85,36 @@ fn serve(s: Session, block: &[u8], out: &mut [u8]) -> Served
     Served { session, ok: true }
 }
 
+// The end of the input: the answer to what is held, and the tally.
+fn end(s: Session, out: &mut [u8])
+    requires { ⌜ Between s ⌝ }
+    requires { ⌜ bufferLimit ≤ length (now out) ⌝ }
+    requires { ⌜ longestTally ≤ length (now out) ⌝ }
+{
+    let last = finish(plainly(), s, out);
+    let n = last.written;
+    if !write_last(s, &out[..n]) {
+        complain_of_output();
+        return;
+    }
+    let m = put_tally(out, 0, last.tally);
+    if !write_tally(s, &out[..m]) {
+        complain_of_output();
+    }
+}
+
+// The input cannot be read: what is held was no whole line, and is not answered.
+fn break_off(s: Session, out: &mut [u8])
+    requires { ⌜ Between s ⌝ }
+    requires { ⌜ longestTally ≤ length (now out) ⌝ }
+{
+    io::write_all(STDERR_FILENO, b"ksrun: standard input cannot be read\n");
+    let m = put_tally(out, 0, s.tally);
+    if !write_tally_until_now(s, &out[..m]) {
+        complain_of_output();
+    }
+}
+
 // Blocks are read and served to the end of the input. A read or a write that fails ends the session, with a word on standard error. Nothing says that the
 // input ends, so the turns are counted down, from a number that no run uses up.
 pub fn run() {
@@ -78,7 +125,7 @@ pub fn run() {
     while 0 < turns {
         let got = libc::read(STDIN_FILENO, &mut input);
         if got < 0 {
-            io::write_all(STDERR_FILENO, b"ksrun: standard input cannot be read\n");
+            break_off(session, &mut output);
             return;
         }
         let n = io::count(got, &input);
@@ -93,9 +140,5 @@ pub fn run() {
         session = served.session;
         turns -= 1;
     }
-    let last = finish(plainly(), session, &mut output);
-    let n = last.written;
-    if !write_last(session, &output[..n]) {
-        complain_of_output();
-    }
+    end(session, &mut output);
 }

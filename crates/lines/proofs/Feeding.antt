@@ -1,6 +1,6 @@
 -- Laws of `fed`: nothing, one byte, bytes behind bytes, a line that ends in the block, and bytes without an LF.
 use Prim.Native.Nat.{ℕ, zero, suc, _≤_, _<_}
-use mathlib.Core.Path.{_≡_, refl, ap, _∙_}
+use mathlib.Core.Path.{_≡_, refl, sym, ap, _∙_}
 use mathlib.Core.List.{List, [], _∷_, _++_, append-assoc, append-nil}
 use mathlib.Core.Bool.{true, false}
 use mathlib.Core.Logic.{⊎-elim}
@@ -76,4 +76,15 @@ module _ {S X : Type 0} (m : Machine S X) where
       (λ e. let n = before-now b bs e in absurd (omega arith))
       (λ e. let n = before-more b bs e in
       rw (fed-grows s (kept m l) b bs e, take-grows (suc (m .limit)) l b) (fed-held bs s (l ++ (b ∷ [])) (omega arith) ∙ rw append-assoc refl))
+      (either (eqb b 10))
+
+-- what is held does not hang on what is put out
+module _ {S X Y : Type 0} (m : Machine S X) (n : Machine S Y) (limits : m .limit ≡ n .limit) (states : (s : S) (l : List ℕ) → m .answer s l .state ≡ n .answer s l .state) where
+  pub held-alike : (bs : List ℕ) (s : S) (l : List ℕ) → fed m s l bs .held ≡ fed n s l bs .held
+  held-alike [] s l = rw (fed-nothing m s l, fed-nothing n s l) refl
+  held-alike (b ∷ bs) s l =
+      ⊎-elim
+      (λ h. rw (fed-ends m s l b bs h, fed-ends n s l b bs h, states s l) (held-alike bs (n .answer s l .state) []))
+      (λ h. ap (λ (f : Fed S X). f .held) (fed-grows m s l b bs h) ∙ ap (λ (k : ℕ). fed m s (take (suc k) (l ++ (b ∷ []))) bs .held) limits
+      ∙ held-alike bs s (grown n l b) ∙ ap (λ (f : Fed S Y). f .held) (sym (fed-grows n s l b bs h)))
       (either (eqb b 10))

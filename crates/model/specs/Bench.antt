@@ -1,15 +1,14 @@
 -- The bench's own program, ksbench: the permanent memory lives in a file. What it does for its lines, act by act, and what the file then holds. It is not in
 -- the owners' documents; docs/USING.md tells it to whoever stands at the bench, and [ksbench] marks what renders that page. ksrun is the same session in
 -- another manner. The statements only; they are proved in proofs/Histories/Bench.
-use Prim.Native.Nat.{_≤_}
 use mathlib.Core.Path.{_≡_}
-use Rattle.model.specs.Base.{ℕ, List, [], _∷_, _++_, map, Bool, true, false, cond, _&&_, Option, none, some, eqb, length, replicate}
-use Rattle.model.specs.Lists.{pieces}
+use Rattle.model.specs.Base.{ℕ, List, [], _∷_, _++_, map, Bool, true, false, cond, not, _&&_, Option, none, some, eqb, replicate}
+use Rattle.model.specs.Lists.{kept, pieces}
 use Rattle.model.specs.Limits.{bufferLimit}
 use Rattle.model.specs.Memory.{State}
 use Rattle.model.specs.Image.{image}
 use Rattle.model.specs.Machine.{Begun, began, stepped, restart, startFactory, startImage}
-use Rattle.model.specs.Trace.{Call, line, afterCalls, printed, session, inputLines, ksrun}
+use Rattle.model.specs.Trace.{Call, line, afterCalls, printed, session, outcomes, inputLines, answersTo}
 use Rattle.model.specs.Demand.{Start, factory-start, image-start, startState}
 use Rattle.model.specs.PowerSwitch.{saves, noneSaves, lastSaved}
 
@@ -143,11 +142,8 @@ savedImages st [] = []
 savedImages st (c ∷ cs) = cond (saves st c) (image (st .volatile) ∷ []) [] ++ savedImages (afterCalls st (c ∷ [])) cs
 
 -- the numbers of the refused lines, in order
-unfoldable pub refusedNumbers : State → List ℕ → List (List ℕ) → List ℕ
-refusedNumbers st b [] = []
-refusedNumbers st b (l ∷ ls) =
-    let o = stepped st l b in
-    cond (eqb (o .number) 0) [] (o .number ∷ []) ++ refusedNumbers (o .state) (o .buffer) ls
+abbrev pub refusedNumbers : State → List ℕ → List (List ℕ) → List ℕ
+refusedNumbers st b ls = kept (λ n. not (eqb n 0)) (outcomes st b ls)
 
 -- [ksbench] what goes where. The answers are those of ksrun's session, in every manner; what is stored, if anything is, are the images at the accepted
 -- WPAs, none left out; what is explained, if anything is, are the refusals
@@ -170,7 +166,7 @@ pub record BenchClaims : Type 0 where
   pub begins : (start : Start) → poweredOn (fileOf start) ≡ began (startState start) 0
   -- in every manner, from any state, with any buffer lent, for any lines
   pub goes : (k : Manner) (st : State) (b : List ℕ) (ls : List (List ℕ)) → GoesWhere k st b ls
-  -- from the factory on, standard output is ksrun's, byte for byte
-  pub as-ksrun : (k : Manner) (input : List ℕ) → printedBytes (ksbench k startFactory input) ≡ ksrun input
+  -- from the factory on, standard output is that of ksrun without its tally, byte for byte
+  pub as-ksrun : (k : Manner) (input : List ℕ) → printedBytes (ksbench k startFactory input) ≡ answersTo input
   -- the file, in a pipe and at a terminal, from every start, after any lines
   pub keeps : (explaining : Bool) (start : Start) (b : List ℕ) (ls : List (List ℕ)) → FileKeeps explaining start b ls

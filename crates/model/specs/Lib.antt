@@ -1,9 +1,9 @@
 -- The machine of document 01, in the order of its paragraphs. A comment names the paragraph that a definition renders:
 -- [Memory 2] is the second paragraph of "Memory and state", [Poses] "Poses and chains", [A line], [Commands, KRM] the bullet that begins so,
 -- [lists] the paragraph "Lists run ..", [Error 9] the item, [Errors, end] the paragraph under the items, [Image], [Two lists 1], [ksrun],
--- [Empty programs, end] the paragraph under that table. Examples has sessions for each of them. [02 §7], [02 §5], [02 §14], [02 §2], [02 §3], [02 §4]
--- and [02 §9] are requests of document 02, rendered by PowerSwitch, Arithmetic, Sheet, Use with Looking, Relative, LongBench and NextStart. [ksbench] is the program that
--- the bench runs, in Reasons and Bench.
+-- [Empty programs, end] the paragraph under that table. Examples has sessions for each of them. [02 §7], [02 §5], [02 §14], [02 §2], [02 §3], [02 §4],
+-- [02 §9] and [02 §10] are requests of document 02, rendered by PowerSwitch, Arithmetic, Sheet, Use with Looking, Relative, LongBench, NextStart, and Tally with TallyClaims.
+-- [ksbench] is the program that the bench runs, in Reasons and Bench.
 pub mod Base
 pub mod Types
 pub mod Ascii
@@ -25,6 +25,7 @@ pub mod Refusals
 pub mod Image
 pub mod ImageClaims
 pub mod Machine
+pub mod Tally
 pub mod Trace
 pub mod Demand
 pub mod Claims
@@ -41,6 +42,7 @@ pub mod Looking
 pub mod Relative
 pub mod LongBench
 pub mod NextStart
+pub mod TallyClaims
 pub mod Reasons
 pub mod Bench
 pub mod Examples

@@ -58,13 +58,13 @@ pub record Tempting : Type 0 where
   pub work-half : then ("KSW W" ∷ "KST T" ∷ "KEN W" ∷ "KEN T" ∷ []) "KEN?"
       ≡ replies "W=KSW \nT=KST \nPI_BASE=KSB(PI) \nPI_LEVELLING=KLD(PI)\n"
 
--- [ksrun] what the program prints: the worked example, refusals with bytes after the last LF, and nothing on no input
+-- [ksrun; 02 §10] what the program prints: the worked example, refusals with bytes after the last LF, and no input, each with its tally
 pub record Printed : Type 0 where
   pub worked : ksrun (ascii "KSD A X 10 W 90\nKSD B X 2 Y -0.5\nKLN B A\nKLT?\n")
       ≡ (ascii "Name=ZERO EndCoordinateSystem=ZERO X=0.000000 Y=0.000000 Z=0.000000 U=0.000000 V=0.000000 W=0.000000 Steps=0 \n"
       ++ (ascii "Name=PI_BASE EndCoordinateSystem=HEXAPOD X=0.000000 Y=0.000000 Z=0.000000 U=0.000000 V=0.000000 W=0.000000 Steps=0 \n"
       ++ (ascii "Name=PI_LEVELLING EndCoordinateSystem=HEXAPOD X=0.000000 Y=0.000000 Z=0.000000 U=0.000000 V=0.000000 W=0.000000 Steps=0 \n"
       ++ (ascii "Name=A EndCoordinateSystem=ZERO X=10.000000 Y=0.000000 Z=0.000000 U=0.000000 V=0.000000 W=90.000000 Steps=1 \n"
-      ++ ascii "Name=B EndCoordinateSystem=ZERO X=10.500000 Y=2.000000 Z=0.000000 U=0.000000 V=0.000000 W=90.000000 Steps=2\n"))))
-  pub refusals : ksrun (ascii "FOO\n\nERR?") ≡ ascii "E 4\nE 4\n4\n"
-  pub no-input : ksrun [] ≡ []
+      ++ ascii "Name=B EndCoordinateSystem=ZERO X=10.500000 Y=2.000000 Z=0.000000 U=0.000000 V=0.000000 W=90.000000 Steps=2\nT 4 4\n"))))
+  pub refusals : ksrun (ascii "FOO\n\nERR?") ≡ ascii "E 4\nE 4\n4\nT 1 3\nR 4 2\n"
+  pub no-input : ksrun [] ≡ ascii "T 0 0\n"

@@ -26,6 +26,9 @@ use Rattle.model.proofs.Histories.Kept.{well-formed-kept}
 use Rattle.commands.specs.Done.{saving, numberIn, Applied}
 use Rattle.engine.specs.declared.answer.Step.{Step}
 use Rattle.engine.specs.Taken.{Takes, takenOf}
+use Rattle.model.specs.Tally.{counted}
+use Rattle.tally.specs.declared.Tally.{Tally as StoredTally}
+use Rattle.tally.specs.Counts.{tallyOf}
 use Rattle.reply.specs.Lines.{Replied}
 use Rattle.session.specs.Feed.{lent, said, outcome}
 use Rattle.session.specs.Blocks.{Says, Answers, mannerOf, dueAfter}
@@ -96,19 +99,21 @@ module _ (s : StoredState) (fine : FineState s) (line b : List ℕ) (long : buff
       (ap (λ (x : Seen). x .number) like-lent))
 
   -- any stored state that stands for the next one will do
-  pub answers : (k : StoredManner) (d : List ℕ) (r : Answer) → Says (o .number) (o .count) (o .buffer) d (r .written) → length d ≡ length b →
-      stateOf (r .state) ≡ o .state → shaped (r .state) ≡ true → r .due ≡ dueAfter (mannerOf k) (stateOf s) line → Answers k s line b d r
-  answers k d r says kept state shape due =
+  pub answers : (k : StoredManner) (t : StoredTally) (d : List ℕ) (r : Answer) → Says (o .number) (o .count) (o .buffer) d (r .written) → length d ≡ length b →
+      stateOf (r .state) ≡ o .state → shaped (r .state) ≡ true → tallyOf (r .tally) ≡ counted (tallyOf t) (o .number) → r .due ≡ dueAfter (mannerOf k) (stateOf s) line →
+      Answers k s t line b d r
+  answers k t d r says kept state shape tally due =
       record {
         puts = says-puts d (r .written) says;
         room = says-room d (r .written) says kept;
         state = state ∙ ap (λ (x : Seen). x .state) like-lent;
         fine = record { shape = shape; formed = rw (state, e) (well-formed-kept .line (stateOf s) line b (fine .formed)) };
+        tally = tally ∙ ap (λ (x : Seen). counted (tallyOf t) (x .number)) like-lent;
         due = due;
       }
 
--- the same where the step was taken: its number is settled, it is said, and done
-module _ (k : StoredManner) (s : StoredState) (fine : FineState s) (line b : List ℕ) (long : bufferLimit ≤ length b) (step : Step) (c : List ℕ)
+-- the same where the step was taken: its number is settled and counted, it is said, and done
+module _ (k : StoredManner) (s : StoredState) (t : StoredTally) (fine : FineState s) (line b : List ℕ) (long : bufferLimit ≤ length b) (step : Step) (c : List ℕ)
     (takes : Takes s (asksToSave (reading line)) (stepped (stateOf s) line b) step c) (number : ℕ)
     (settled : number ≡ numberIn (step .decision) (memoryOf (s .permanent))) where
   abbrev pub settledOutcome : Outcome
@@ -118,8 +123,9 @@ module _ (k : StoredManner) (s : StoredState) (fine : FineState s) (line b : Lis
   settled-is = (λ i. record { state = takenOf (stateOf s) step c .state; number = settled i; count = step .length; buffer = c }) ∙ takes .outcome
 
   pub answers-taken : (d : List ℕ) (n : ℕ) → Says number (step .length) c d n → length d ≡ length b →
+      (next-tally : StoredTally) → tallyOf next-tally ≡ counted (tallyOf t) number →
       (due : Due) → due ≡ record { store = k .storing && saving (step .decision .deed); reason = cond (k .explaining) number 0 } →
-      {next : StoredState} → Applied s (step .decision) next → Answers k s line b d (record { state = next; written = n; due = due })
-  answers-taken d n says kept due told {next} done =
-      answers s fine line b long settledOutcome settled-is k d (record { state = next; written = n; due = due }) says kept (done .state) (done .shape (fine .shape))
+      {next : StoredState} → Applied s (step .decision) next → Answers k s t line b d (record { state = next; tally = next-tally; written = n; due = due })
+  answers-taken d n says kept next-tally tally due told {next} done =
+      answers s fine line b long settledOutcome settled-is k t d (record { state = next; tally = next-tally; written = n; due = due }) says kept (done .state) (done .shape (fine .shape)) tally
       (due-is s fine line b long settledOutcome settled-is k _ (rw settled (takes .saves)) due told)

@@ -1,7 +1,7 @@
--- Block by block or whole, the same is printed, and the same is done: `whole`, `whole-acts`.
+-- Block by block or whole, the same is printed and counted, and the same is done: `whole`, `whole-acts`.
 use Prim.Native.Nat.{ℕ, suc, _≤_, _<_}
 use mathlib.Core.Path.{_≡_, refl, sym, ap, _∙_}
-use mathlib.Core.List.{List, [], _∷_, _++_, map}
+use mathlib.Core.List.{List, [], _∷_, _++_, map, append-assoc}
 use mathlib.Core.Bool.{Bool, false, cond, _&&_}
 use lib.Dec.{eqb}
 use mathlib.Core.Logic.{⊎-elim}
@@ -16,15 +16,18 @@ use Rattle.model.specs.Machine.{stepped, startFactory}
 use Rattle.model.specs.Request.{reading}
 use Rattle.model.specs.Checklist.{asksToSave}
 use Rattle.model.specs.PowerSwitch.{saves}
-use Rattle.model.specs.Trace.{printed, session, inputLines, ksrun}
+use Rattle.model.specs.Tally.{emptyTally, tallied, tallyText}
+use Rattle.model.specs.Trace.{printed, session, outcomes, inputLines, answersTo, outcomesOf, ksrun}
 use Rattle.model.specs.Bench.{Act, Manner, prints, dueActs, lineActs, acted, ksbench}
 use Rattle.lines.specs.Feed.{Answer}
 use Rattle.lines.specs.Whole.{answers, Clips}
+use Rattle.lines.proofs.Feeding.{held-alike}
 use Rattle.lines.proofs.Whole.{whole-input}
-use Rattle.session.specs.Feed.{lent, answering, acting, ended, endedActs, said, outcome}
+use Rattle.session.specs.Feed.{Held, lent, answering, acting, numbering, fed, ended, endedActs, fedOutcomes, endedOutcomes, closing, said, outcome}
 use Rattle.session.specs.Whole.{Whole, WholeActs}
 use Rattle.model.specs.WellFormed.{wellFormed}
 use Rattle.model.proofs.Basics.{either}
+use Rattle.model.proofs.Histories.Tally.{counted-append}
 use Rattle.model.proofs.Ladder.Refusing.{step-ill, step-number}
 use Rattle.session.proofs.Buffer.{Seen, seen, any-buffer, too-long, clipped, stays-long}
 
@@ -48,9 +51,41 @@ session-answers (l ∷ ls) st b h =
     let state : stepped st l b .state ≡ outcome st l .state = ap (λ (s : Seen). s .state) e in
     rw (text, state) (ap (λ (t : List ℕ). said st l ++ t) (session-answers ls (outcome st l .state) (stepped st l b .buffer) (omega (arith, stays-long st l b))))
 
+answers-whole : (input : List ℕ) → answersTo input ≡ fed startFactory [] input .output ++ ended (fed startFactory [] input .held)
+unfolding answersTo lent ended
+answers-whole input = session-answers (inputLines (pieces 10 input)) startFactory lent lent-long ∙ whole-input answering clips startFactory input
+
+-- ---- outcomes
+
+pub clips-outcomes : Clips numbering
+clips-outcomes st p = ap {B = Answer State ℕ} (λ (s : Seen). record { state = s .state; text = s .number ∷ [] }) (clipped st p lent lent-long)
+
+-- lines that are numbered are held as lines that are answered
+pub outcomes-held : (st : State) (l block : List ℕ) → fedOutcomes st l block .held ≡ fed st l block .held
+outcomes-held st l block = held-alike numbering answering refl (λ s k. refl) block st l
+
+outcomes-answers : (ls : List (List ℕ)) (st : State) (b : List ℕ) → bufferLimit ≤ length b → outcomes st b ls ≡ answers (numbering .answer) st ls
+unfolding outcomes answers
+outcomes-answers [] st b h = refl
+outcomes-answers (l ∷ ls) st b h =
+    let e = any-buffer st l b lent h lent-long in
+    let number : stepped st l b .number ≡ outcome st l .number = ap (λ (s : Seen). s .number) e in
+    let state : stepped st l b .state ≡ outcome st l .state = ap (λ (s : Seen). s .state) e in
+    rw (number, state) (ap (λ (t : List ℕ). outcome st l .number ∷ t) (outcomes-answers ls (outcome st l .state) (stepped st l b .buffer) (omega (arith, stays-long st l b))))
+
+outcomes-whole : (input : List ℕ) → outcomesOf input ≡ fedOutcomes startFactory [] input .output ++ endedOutcomes (fed startFactory [] input .held)
+unfolding outcomesOf lent endedOutcomes
+outcomes-whole input =
+    outcomes-answers (inputLines (pieces 10 input)) startFactory lent lent-long ∙ whole-input numbering clips-outcomes startFactory input
+    ∙ ap (λ (h : Held). fedOutcomes startFactory [] input .output ++ endedOutcomes h) (outcomes-held startFactory [] input)
+
 pub whole : Whole
-unfolding ksrun lent ended
-whole input = session-answers (inputLines (pieces 10 input)) startFactory lent lent-long ∙ whole-input answering clips startFactory input
+unfolding ksrun
+whole input =
+    let h = fed startFactory [] input .held in
+    let counts : tallied (outcomesOf input) ≡ closing (tallied (fedOutcomes startFactory [] input .output)) h =
+    ap tallied (outcomes-whole input) ∙ counted-append (fedOutcomes startFactory [] input .output) (endedOutcomes h) emptyTally in
+    (λ i. answers-whole input i ++ tallyText (counts i)) ∙ append-assoc (fed startFactory [] input .output) (ended h) _
 
 -- ---- acts
 

@@ -10,12 +10,15 @@ use Rattle.model.specs.Limits.{bufferLimit}
 use Rattle.model.specs.Memory.{State}
 use Rattle.model.specs.Machine.{startFactory}
 use Rattle.model.specs.Trace.{refusalText}
+use Rattle.model.specs.Tally.{Tally, emptyTally, counted, countedAll, Sums}
 use Rattle.model.specs.Bench.{Act, Manner, manner, prints, dueActs, dueStore, dueReason}
 use Rattle.model.specs.Stored.{FineState, stateOf}
 use Rattle.reply.specs.Lines.{Replied}
+use Rattle.tally.specs.declared.Tally.{Tally as StoredTally}
+use Rattle.tally.specs.Counts.{tallyOf}
 use Rattle.lines.specs.Before.{before}
 use Rattle.lines.specs.Feed.{holding}
-use Rattle.session.specs.Feed.{lent, fed, ended, fedActs, endedActs, said, outcome, enough, Held}
+use Rattle.session.specs.Feed.{lent, fed, ended, fedActs, endedActs, fedOutcomes, closing, said, outcome, enough, Held}
 use Rattle.session.specs.declared.due.Manner.{Manner as StoredManner}
 use Rattle.session.specs.declared.due.Due.{Due}
 use Rattle.session.specs.declared.feed.Session.{Session}
@@ -46,11 +49,13 @@ dueAfter k st l = record { store = dueStore k st l lent; reason = dueReason k st
 -- a session between two blocks
 pub record Between (s : Session) : Type 0 where
   pub fine : FineState (s .state)
+  pub sums : Sums (tallyOf (s .tally))
   pub few : s .held .count ≤ enough
 
 -- a session that begins
 pub record Begins (s : Session) : Type 0 where
   pub held : heldOf s ≡ holding startFactory []
+  pub tally : tallyOf (s .tally) ≡ emptyTally
   pub between : Between s
 
 -- so many bytes of answer stand in the buffer: those of a reply as they were, or those of a refusal
@@ -58,16 +63,17 @@ pub record Says (number count : ℕ) (before after : List ℕ) (n : ℕ) : Type 
   pub taken : number ≡ 0 → (n ≡ count) × (after ≡ before)
   pub refused : (number ≡ 0 → ⊥) → Replied (refusalText number) before after n
 
--- one line was answered: the next state, so many bytes, and what is due
-pub record Answers (k : StoredManner) (s : StoredState) (line before after : List ℕ) (r : Answer) : Type 0 where
+-- one line was answered: the next state, its outcome counted, so many bytes, and what is due
+pub record Answers (k : StoredManner) (s : StoredState) (t : StoredTally) (line before after : List ℕ) (r : Answer) : Type 0 where
   pub puts : Replied (said (stateOf s) line) before after (r .written)
   pub room : r .written ≤ length before
   pub state : stateOf (r .state) ≡ outcome (stateOf s) line .state
   pub fine : FineState (r .state)
+  pub tally : tallyOf (r .tally) ≡ counted (tallyOf t) (outcome (stateOf s) line .number)
   pub due : r .due ≡ dueAfter (mannerOf k) (stateOf s) line
 
--- the lines of a block up to a place were answered: the state there, so many bytes, and what is due
-pub record Run (k : StoredManner) (st₀ : State) (block out₀ out : List ℕ) (s : StoredState) (at w : ℕ) (d : Due) : Type 0 where
+-- the lines of a block up to a place were answered: the state there, their outcomes counted, so many bytes, and what is due
+pub record Run (k : StoredManner) (st₀ : State) (t₀ : Tally) (block out₀ out : List ℕ) (s : StoredState) (t : StoredTally) (at w : ℕ) (d : Due) : Type 0 where
   pub within : at ≤ length block
   pub fine : FineState s
   pub held : fed st₀ [] (take at block) .held ≡ holding (stateOf s) []
@@ -75,15 +81,16 @@ pub record Run (k : StoredManner) (st₀ : State) (block out₀ out : List ℕ) 
   pub room : w ≤ length out₀
   pub long : length out ≡ length out₀
   pub acts : fedActs (mannerOf k) st₀ [] (take at block) ≡ record { held = holding (stateOf s) []; output = withDue (fed st₀ [] (take at block) .output) d s }
+  pub tally : tallyOf t ≡ countedAll t₀ (fedOutcomes st₀ [] (take at block) .output)
   pub begun : at ≡ 0 → d ≡ nothing
 
 -- a run over a block: where another line ends, it stopped for want of room or for what is due
-pub record Runs (k : StoredManner) (s : StoredState) (block out₀ out : List ℕ) (r : Ran) : Type 0 where
-  pub run : Run k (stateOf s) block out₀ out (r .state) (r .used) (r .written) (r .due)
+pub record Runs (k : StoredManner) (s : StoredState) (t : StoredTally) (block out₀ out : List ℕ) (r : Ran) : Type 0 where
+  pub run : Run k (stateOf s) (tallyOf t) block out₀ out (r .state) (r .tally) (r .used) (r .written) (r .due)
   pub stops : r .used + before (drop (r .used) block) < length block → (length out - r .written < bufferLimit) ⊎ (r .due ≡ nothing → ⊥)
 
--- a block was fed, as far as it was used: its answers, and with what is due behind them its acts
-pub record Feeds (k : StoredManner) (s : StoredState) (line block before after : List ℕ) (r : StoredFed) : Type 0 where
+-- a block was fed, as far as it was used: its answers, its outcomes counted, and with what is due behind the answers its acts
+pub record Feeds (k : StoredManner) (s : StoredState) (t : StoredTally) (line block before after : List ℕ) (r : StoredFed) : Type 0 where
   pub within : r .used ≤ length block
   pub moves : 0 < length block → 0 < r .used
   pub puts : Replied (fed (stateOf s) line (take (r .used) block) .output) before after (r .written)
@@ -93,6 +100,7 @@ pub record Feeds (k : StoredManner) (s : StoredState) (line block before after :
   pub fine : FineState (r .session .state)
   pub acts : fedActs (mannerOf k) (stateOf s) line (take (r .used) block)
       ≡ record { held = heldOf (r .session); output = withDue (fed (stateOf s) line (take (r .used) block) .output) (r .due) (r .session .state) }
+  pub tally : tallyOf (r .session .tally) ≡ countedAll (tallyOf t) (fedOutcomes (stateOf s) line (take (r .used) block) .output)
 
 -- the end of the input was answered
 pub record Ends (k : StoredManner) (s : Session) (before after : List ℕ) (r : Answer) : Type 0 where
@@ -100,3 +108,4 @@ pub record Ends (k : StoredManner) (s : Session) (before after : List ℕ) (r : 
   pub room : r .written ≤ length before
   pub fine : FineState (r .state)
   pub acts : endedActs (mannerOf k) (heldOf s) ≡ withDue (ended (heldOf s)) (r .due) (r .state)
+  pub tally : tallyOf (r .tally) ≡ closing (tallyOf (s .tally)) (heldOf s)

@@ -1,12 +1,13 @@
 -- Document 01, "ksrun", for input that comes in blocks: lines are cut as in lines/specs/Feed.antt, and answered by the machine of document 01. The same for
--- the acts of ksbench. Whole.antt ties both to the whole input.
+-- the acts of ksbench, and for the outcomes that document 02 §10 counts. Whole.antt ties all three to the whole input.
 use Prim.Native.Nat.{ℕ, suc, _≤_}
 use mathlib.Core.Path.{_≡_}
-use mathlib.Core.List.{List}
+use mathlib.Core.List.{List, [], _∷_}
 use lib.ListN.{take, replicate}
 use Rattle.model.specs.Limits.{bufferLimit, lineLimit}
 use Rattle.model.specs.Memory.{State}
 use Rattle.model.specs.Machine.{Outcome, stepped}
+use Rattle.model.specs.Tally.{Tally, countedAll}
 use Rattle.model.specs.Trace.{printed}
 use Rattle.model.specs.Bench.{Act, Manner, lineActs}
 use Rattle.lines.specs.Feed as Lines
@@ -58,6 +59,24 @@ fedActs k st l block = Lines.fed (acting k) st l block
 -- [ksbench] and at the end of the input
 unfoldable pub endedActs : Manner → Held → List Act
 endedActs k h = Lines.ended (acting k) h
+
+-- ---- the same of the outcomes
+
+-- the machine: a line, its next state, and its number
+abbrev pub numbering : Lines.Machine State ℕ
+numbering = record { answer = λ st l. record { state = outcome st l .state; text = outcome st l .number ∷ [] }; limit = lineLimit }
+
+-- [02 §10] the outcomes of a block
+abbrev pub fedOutcomes : State → List ℕ → List ℕ → Fed
+fedOutcomes st l block = Lines.fed numbering st l block
+
+-- [02 §10] and of the end of the input
+unfoldable pub endedOutcomes : Held → List ℕ
+endedOutcomes h = Lines.ended numbering h
+
+-- [02 §10] a tally at the end of the input: what is held is counted too, unless it is nothing
+abbrev pub closing : Tally → Held → Tally
+closing t h = countedAll t (endedOutcomes h)
 
 -- ---- what the code cuts
 

@@ -1,4 +1,4 @@
-// The lines of a block, one after the other, until something is due. The state lies open in its parts, and what a line does is done there in place: no line copies the state.
+// The lines of a block, one after the other, until something is due. The state and the tally lie open in their parts, and what a line does is done there in place: no line copies them.
 use crate::due::Due;
 use crate::due::Manner;
 use crate::due::due_of;
@@ -18,18 +18,23 @@ use model::State;
 use print::put_byte;
 use print::put_decimal;
 use print::put_text;
+use tally::Tally;
+use tally::count_in;
 ghost use mathlib.Core.Path.{_≡_};
 ghost use Prim.Native.Nat.{_≤_};
 ghost use lib.ListN.{length};
 ghost use Rattle.model.specs.Limits.{bufferLimit};
 ghost use Rattle.model.specs.Stored.{FineState};
 ghost use Rattle.model.specs.Trace.{refusalText};
+ghost use Rattle.model.specs.Tally.{Sums};
+ghost use Rattle.tally.specs.Counts.{tallyOf};
 ghost use Rattle.reply.specs.Lines.{Replied};
 ghost use Rattle.session.specs.Blocks.{Says, Runs};
 
-// What a run left: the state, how many bytes of the block were used, how many bytes of answers were written, and what is due behind the last of them.
+// What a run left: the state, the tally, how many bytes of the block were used, how many bytes of answers were written, and what is due behind the last of them.
 pub struct Ran {
     pub state: State,
+    pub tally: Tally,
     pub used: usize,
     pub written: usize,
     pub due: Due,
@@ -56,18 +61,20 @@ pub fn say(number: u8, count: usize, out: &mut [u8]) -> usize
     put_refusal(number, out)
 }
 
-// The open parts of the state, put together again.
+// The open parts of the state, put together again, with what else is left.
 fn left_with(
     volatile: Memory,
     permanent: Memory,
     level: u8,
     error: u8,
+    tally: Tally,
     used: usize,
     written: usize,
     due: Due,
 ) -> Ran
     ensures { λ r. ⌜ r ≡ record {
       state = record { volatile = volatile; permanent = permanent; level = level; error = error };
+      tally = tally;
       used = used;
       written = written;
       due = due;
@@ -81,6 +88,7 @@ fn left_with(
     };
     Ran {
         state,
+        tally,
         used,
         written,
         due,
@@ -88,15 +96,18 @@ fn left_with(
 }
 
 // Whole lines from the start of a block on, while there is room for an answer and nothing is due.
-pub fn run_lines(k: Manner, s: State, block: &[u8], out: &mut [u8]) -> Ran
+pub fn run_lines(k: Manner, s: State, t: Tally, block: &[u8], out: &mut [u8]) -> Ran
     requires { ⌜ FineState s ⌝ }
+    requires { ⌜ Sums (tallyOf t) ⌝ }
     requires { ⌜ bufferLimit ≤ length (now out) ⌝ }
-    ensures { λ r. ⌜ Runs k s (now (block .entry)) (now (out .entry)) (now (out .exit)) r ⌝ }
+    ensures { λ r. ⌜ Runs k s t (now (block .entry)) (now (out .entry)) (now (out .exit)) r ⌝ }
 {
     let mut volatile = s.volatile;
     let mut permanent = s.permanent;
     let mut level = s.level;
     let mut error = s.error;
+    let mut counts = t.counts;
+    let mut total = t.total;
     let mut used = 0;
     let mut written = 0;
     let mut due = nothing_due();
@@ -109,6 +120,7 @@ pub fn run_lines(k: Manner, s: State, block: &[u8], out: &mut [u8]) -> Ran
         let step = decide(volatile, level, error, line, &mut out[written..]);
         let decision = step.decision;
         let number = settled(permanent, decision);
+        total = count_in(&mut counts, total, number);
         let deed = decision.deed;
         due = due_of(k, number, deed);
         written += say(number, step.length, &mut out[written..]);
@@ -131,5 +143,6 @@ pub fn run_lines(k: Manner, s: State, block: &[u8], out: &mut [u8]) -> Ran
             Deed::Reset => volatile = factory_memory(),
         }
     }
-    left_with(volatile, permanent, level, error, used, written, due)
+    let tally = Tally { counts, total };
+    left_with(volatile, permanent, level, error, tally, used, written, due)
 }

@@ -8,15 +8,19 @@ use lib.ListN.{length, take}
 use lib.Seq.{length-take-le, take-all}
 use Rattle.model.proofs.Basics.{true-false}
 use Rattle.lines.proofs.Places.{rest-long}
+use Rattle.model.specs.Tally.{countedAll}
+use Rattle.tally.specs.Counts.{tallyOf}
 use Rattle.session.specs.Blocks.{heldOf, Between}
-use Rattle.console.specs.Serve.{given}
-use Rattle.console.proofs.Serving.{given-nothing, part-handed, part-held}
+use Rattle.session.proofs.Running.{fed-between}
+use Rattle.console.specs.Serve.{given, outcomesGiven}
+use Rattle.console.proofs.Serving.{given-nothing, counted-nothing, part-handed, part-held, part-counted}
 use Rattle.console.proofs.serve.Statement.{statement}
 use Rattle.console.proofs.serve.Tie as tie
 
 abbrev Inv-loop : tie.InvT-loop
 Inv-loop block out₀ session₀ at₀ out session at =
     (at ≤ length block) × Between session × (length out ≡ length out₀) × (heldOf session ≡ given session₀ (take at block) .held)
+    × (tallyOf (session .tally) ≡ countedAll (tallyOf (session₀ .tally)) (outcomesGiven session₀ (take at block)))
 
 abbrev μ-loop : tie.MeasureT-loop
 μ-loop block out₀ session₀ at₀ out session at = length block - at
@@ -45,12 +49,12 @@ module _ (k : tie.After-feed Inv-loop μ-loop) where
   written-within = omega (arith, k .feed .ensures .room, kept-long, at-loop .loop .inv .2)
 
 loop-holds : tie.Need-loop-holds Inv-loop μ-loop
-loop-holds c = (omega arith, c .before .before .pre .0, refl, given-nothing (c .before .before .args .s))
+loop-holds c = (omega arith, c .before .before .pre .0, refl, given-nothing (c .before .before .args .s), counted-nothing (c .before .before .args .s))
 
 feed-requires : tie.Need-feed-requires Inv-loop μ-loop
 feed-requires c κs =
     let l = c .before .before .before .before .loop in
-    (l .inv .1 .fine, (l .inv .1 .few, omega (arith, l .inv .2, c .before .before .before .before .before .before .before .pre .1)))
+    (l .inv .1 .fine, (l .inv .1 .sums, (l .inv .1 .few, omega (arith, l .inv .2, c .before .before .before .before .before .before .before .pre .1))))
 
 add-end : tie.Need-add-end Inv-loop μ-loop
 add-end c = let k = c .before .before .before in record { fits = omega (arith, used k, start k .good .1 .0 .0) }
@@ -71,12 +75,12 @@ write-answers-requires : tie.Need-write-answers-requires Inv-loop μ-loop
 write-answers-requires c κs =
     let k = c .before .before .before .before .before in
     let l = at-loop k .loop in
-    part-handed (start k .args .s) (start k .args .block .now) (l .session) (l .at) (l .inv .3) _ _ (k .feed .result) _ (k .feed .ensures) (end k) refl
+    part-handed (start k .args .s) (start k .args .block .now) (l .session) (l .at) (l .inv .3) (l .inv .4) _ _ (k .feed .result) _ (k .feed .ensures) (end k) refl
 
 returns : tie.Need-returns Inv-loop μ-loop
 returns c =
     let l = at-loop (c .before .before .before .before .before .before .before) .loop in
-    record { held = λ e. true-false (sym e); between = l .inv .1 }
+    record { held = λ e. true-false (sym e); tally = λ e. true-false (sym e); between = l .inv .1 }
 
 loop-less : tie.Need-loop-less Inv-loop μ-loop
 loop-less c = let k = c .before .before .before .before .before .before .before .before in omega (arith, used k, moved k)
@@ -87,9 +91,10 @@ loop-again c =
     let l = at-loop k .loop in
     let f = k .feed .ensures in (
       used k,
-      record { fine = f .fine; few = f .few },
+      fed-between (l .inv .1 .sums) f,
       kept-long k,
-      part-held (start k .args .s) (start k .args .block .now) (l .session) (l .at) (l .inv .3) _ _ (k .feed .result) _ f (end k) refl,
+      part-held (start k .args .s) (start k .args .block .now) (l .session) (l .at) (l .inv .3) (l .inv .4) _ _ (k .feed .result) _ f (end k) refl,
+      part-counted (start k .args .s) (start k .args .block .now) (l .session) (l .at) (l .inv .3) (l .inv .4) _ _ (k .feed .result) _ f (end k) refl,
     )
 
 returns-2 : tie.Need-returns-2 Inv-loop μ-loop
@@ -98,6 +103,7 @@ returns-2 c =
     let start = c .before .before .before .before in
     record {
       held = λ e. l .inv .3 ∙ ap (λ (t : List ℕ). given (start .args .s) t .held) (take-all (l .at) (start .args .block .now) (c .loop-test .left));
+      tally = λ e. l .inv .4 ∙ ap (λ (t : List ℕ). countedAll (tallyOf (start .args .s .tally)) (outcomesGiven (start .args .s) t)) (take-all (l .at) (start .args .block .now) (c .loop-test .left));
       between = l .inv .1;
     }
 

@@ -1,24 +1,24 @@
 -- The bench's program, proved: `bench-claims`.
 use Prim.Native.Nat.{ℕ}
 use mathlib.Core.Path.{_≡_, refl, sym, ap, _∙_}
-use mathlib.Core.List.{List, [], _∷_, _++_, map, append-assoc, append-nil}
+use mathlib.Core.List.{List, [], _∷_, _++_, map, append-assoc}
 use mathlib.Core.Bool.{Bool, true, false, cond, not, _&&_}
 use mathlib.Core.Option.{Option, none, some}
 use mathlib.Core.Logic.{⊎-elim}
 use lib.Dec.{eqb}
 use lib.ListN.{replicate}
-use Rattle.model.specs.Lists.{pieces}
+use Rattle.model.specs.Lists.{kept, pieces}
 use Rattle.model.specs.Limits.{bufferLimit}
 use Rattle.model.specs.Memory.{Memory, State, started}
 use Rattle.model.specs.WellFormed.{wellFormed}
 use Rattle.model.specs.Request.{reading}
 use Rattle.model.specs.Image.{image}
 use Rattle.model.specs.Machine.{Begun, began, stepped, restart, startFactory}
-use Rattle.model.specs.Trace.{Call, line, called, afterCalls, printed, session, inputLines, ksrun}
+use Rattle.model.specs.Trace.{Call, line, called, afterCalls, printed, session, outcomes, inputLines, answersTo}
 use Rattle.model.specs.Checklist.{asksToSave}
 use Rattle.model.specs.Demand.{Start, factory-start, image-start, startState}
-use Rattle.model.specs.PowerSwitch.{saves, noneSaves, lastSaved}
-use Rattle.model.specs.Bench.{Act, prints, stores, explains, Manner, manner, storedActs, reasonActs, dueActs, dueStore, dueReason, lineDue, lineActs, acted, ksbench, gathered, byteOf, imageOf, numberOf, poweredOn, fileAfter, fileOf, sent, savedImages, refusedNumbers, GoesWhere, FileKeeps, BenchClaims}
+use Rattle.model.specs.PowerSwitch.{saves, noneSaves}
+use Rattle.model.specs.Bench.{Act, prints, stores, explains, Manner, manner, storedActs, dueActs, dueStore, dueReason, lineDue, lineActs, acted, ksbench, gathered, byteOf, imageOf, numberOf, poweredOn, fileAfter, fileOf, sent, savedImages, refusedNumbers, FileKeeps, BenchClaims}
 use Rattle.model.proofs.Basics.{true-false, and-split, either}
 use Rattle.model.proofs.Ladder.Refusing.{restart-fine}
 use Rattle.model.proofs.Ladder.Exact.{start-some}
@@ -123,14 +123,15 @@ images-gathered false x st b (l ∷ ls) =
 
 numbers-gathered : (s x : Bool) (st : State) (b : List ℕ) (ls : List (List ℕ)) →
     gathered numberOf (acted (manner s x) st b ls) ≡ cond x (refusedNumbers st b ls) []
-unfolding acted gathered numberOf refusedNumbers
+unfolding acted gathered numberOf kept outcomes
 numbers-gathered s true st b [] = refl
 numbers-gathered s true st b (l ∷ ls) =
     let o = stepped st l b in
     let k = manner s true in
     more numberOf k st l b (acted k (o .state) (o .buffer) ls)
     ∙ rw (none-printed numberOf (λ c. refl) (printed o), line-numbers k st l b)
-    (ap (λ (t : List ℕ). cond (eqb (o .number) 0) [] (o .number ∷ []) ++ t) (numbers-gathered s true (o .state) (o .buffer) ls))
+    (ap (λ (t : List ℕ). cond (eqb (o .number) 0) [] (o .number ∷ []) ++ t) (numbers-gathered s true (o .state) (o .buffer) ls)
+    ∙ ⊎-elim (λ e. rw e refl) (λ e. rw e refl) (either (eqb (o .number) 0)))
 numbers-gathered s false st b [] = refl
 numbers-gathered s false st b (l ∷ ls) =
     let o = stepped st l b in
@@ -239,7 +240,7 @@ module _ (x : Bool) (start : Start) (b : List ℕ) (ls : List (List ℕ)) where
       }
 
 pub bench-claims : BenchClaims
-unfolding ksbench ksrun
+unfolding ksbench answersTo
 bench-claims =
     record {
       begins = begins;

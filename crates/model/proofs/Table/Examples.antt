@@ -14,6 +14,7 @@ use Rattle.model.specs.Examples.Use.{OfUse}
 use Rattle.model.specs.Examples.Relative.{OfRelative}
 use Rattle.model.specs.Examples.LongBench.{OfLongBench}
 use Rattle.model.specs.Examples.NextStart.{OfNextStart}
+use Rattle.model.specs.Examples.Tally.{OfTally}
 use Rattle.model.specs.Examples.Bench.{OfBench}
 use Rattle.model.specs.Demand.{changesEnabled, asksToEnable, noneTaken, held, heldPart, frames}
 use Rattle.model.specs.Histories.{steadyBy}
@@ -146,6 +147,10 @@ unfolding sessions-open asksToSave saves held heldPart frames underEnabled never
 of-next-start =
     record { operator = refl; freed = refl; chain = refl; by-name = refl; free = refl; before = refl; from-image = refl; saved-unused = refl; saved-used = refl }
 
+of-tally : OfTally
+unfolding sessions-open
+of-tally = record { counted = refl; none-accepted = refl; none-refused = refl; nothing = refl; not-occurred = refl; full = refl; stays = refl; most = refl; printed = refl }
+
 of-bench : OfBench
 unfolding sessions-open asksToSave saves reason storedActs acted ksbench gathered byteOf poweredOn fileAfter
 of-bench =
@@ -174,4 +179,4 @@ of-bench =
 
 pub examples : Examples
 examples =
-    record { memories = of-memories; poses = of-poses; lines = of-lines; commands = of-commands; lists = of-lists; numbers = of-numbers; images = of-images; histories = of-histories; storage = of-storage; in-use = of-use; relative = of-relative; long-bench = of-long-bench; next-start = of-next-start; bench = of-bench }
+    record { memories = of-memories; poses = of-poses; lines = of-lines; commands = of-commands; lists = of-lists; numbers = of-numbers; images = of-images; histories = of-histories; storage = of-storage; in-use = of-use; relative = of-relative; long-bench = of-long-bench; next-start = of-next-start; tally = of-tally; bench = of-bench }

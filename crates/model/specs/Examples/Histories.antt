@@ -43,9 +43,9 @@ pub record OfHistories : Type 0 where
   pub steady-not : steady startFactory enablingA ≡ false
   pub steady-numbers : steadyBy holdingStill (0 ∷ 7 ∷ 9 ∷ 0 ∷ []) ≡ true
   pub steady-numbers-not : steadyBy enablingA (0 ∷ 0 ∷ []) ≡ false
-  -- [ksrun] replies and refusals in the order of the lines; an LF ends a line, and a CR is a byte of it
+  -- [ksrun] replies and refusals in the order of the lines; an LF ends a line, and a CR is a byte of it; the tally behind them
   pub prints : ksrun (ascii "KSD A\nKSW A\nKEN A\nKEN?\nKEN?\r\nERR?\nERR?\n")
-      ≡ ascii "E 10\nA=KSD \nPI_BASE=KSB(PI) \nPI_LEVELLING=KLD(PI)\nE 3\n3\n0\n"
+      ≡ ascii "E 10\nA=KSD \nPI_BASE=KSB(PI) \nPI_LEVELLING=KLD(PI)\nE 3\n3\n0\nT 5 7\nR 3 1\nR 10 1\n"
   -- [02 §7] a pair is saved, W on V its work half; whatever is done to it afterwards without a save, the switch brings it back, and again the next time
   pub switched : Session (
       "CCL 1 ADVANCED" ⇒ taken ∷ "KSW V X 1" ⇒ taken ∷ "KSW W X 2" ⇒ taken ∷ "KLN W V" ⇒ taken ∷ "KST T" ⇒ taken ∷ "KEN W" ⇒ taken ∷ "KEN T" ⇒ taken

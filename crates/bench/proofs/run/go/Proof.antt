@@ -1,5 +1,4 @@
 -- `go`: the buffers keep their lengths, the session goes from block to block, and the turns fall.
-use Prim.Native.Nat.{_≤_}
 use mathlib.Core.Path.{_≡_}
 use mathlib.Core.Bool.{true}
 use native.Mathlib.Omega.{arith}
@@ -22,8 +21,12 @@ loop-holds c = (search needs, search needs, search needs, c .before .before .bef
 serve-requires : tie.Need-serve-requires Inv-loop μ-loop
 serve-requires c κs = let l = c .before .before .before .before .before .before .before .before .before .before .before .loop in (l .inv .3, (omega (arith, l .inv .1), (omega (arith, l .inv .2), l .inv .4)))
 
+-- what was read into is as long as before
+input-kept : (c : tie.After-read Inv-loop μ-loop) → 65536 ≡ length (c .read .last .1 .0)
+input-kept c = search needs
+
 loop-again : tie.Need-loop-again Inv-loop μ-loop
-loop-again c = (search needs, search needs, search needs, c .before .before .before .before .before .serve .ensures .between, c .before .before .before .before .before .before .before .before .before .before .before .before .before .before .before .before .before .loop .inv .4)
+loop-again c = (input-kept (c .before .before .before .before .before .before .before .before .before .before .before .before .before .before), search needs, search needs, c .before .before .before .before .before .serve .ensures .between, c .before .before .before .before .before .before .before .before .before .before .before .before .before .before .before .before .before .loop .inv .4)
 
 serve-last-requires : tie.Need-serve-last-requires Inv-loop μ-loop
 serve-last-requires c κs = let l = c .before .before .before .loop in (l .inv .3, (omega (arith, l .inv .1), (omega (arith, l .inv .2), l .inv .4)))

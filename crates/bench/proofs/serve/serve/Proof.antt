@@ -10,6 +10,7 @@ use lib.Seq.{length-take-le, take-all}
 use Rattle.model.proofs.Basics.{true-false}
 use Rattle.lines.proofs.Places.{rest-long}
 use Rattle.session.specs.Blocks.{heldOf, Between}
+use Rattle.session.proofs.Running.{fed-between}
 use Rattle.bench.specs.Serve.{given}
 use Rattle.bench.proofs.Serving.{given-nothing, part-handed, part-held}
 use Rattle.bench.proofs.serve.serve.Statement.{statement}
@@ -51,7 +52,7 @@ loop-holds c = let start = c .before .before .before .before .before in (omega a
 feed-requires : tie.Need-feed-requires Inv-loop μ-loop
 feed-requires c κs =
     let l = c .before .before .before .loop in
-    (l .inv .1 .fine, (l .inv .1 .few, omega (arith, l .inv .2, c .before .before .before .before .before .before .before .before .before .pre .1 .0)))
+    (l .inv .1 .fine, (l .inv .1 .sums, (l .inv .1 .few, omega (arith, l .inv .2, c .before .before .before .before .before .before .before .before .before .pre .1 .0))))
 
 add-end : tie.Need-add-end Inv-loop μ-loop
 add-end c = let k = c .before .before .before in record { fits = omega (arith, used k, start k .good .1 .1 .1 .0 .0) }
@@ -119,7 +120,7 @@ loop-again c =
     let l = at-loop k .loop in
     let f = k .feed .ensures in (
       used k,
-      record { fine = f .fine; few = f .few },
+      fed-between (l .inv .1 .sums) f,
       kept-long k,
       image-long (c .before .before .before .before .before .before .before .before),
       part-held (a .k) (a .s) (a .block .now) (l .session) (l .at) (l .inv .4) _ _ (k .feed .result) f (end k) refl,

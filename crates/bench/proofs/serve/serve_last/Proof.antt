@@ -1,5 +1,4 @@
 -- `serve_last`: what the session does at the end of its input is handed out.
-use Prim.Native.Nat.{_≤_}
 use mathlib.Core.Path.{_≡_, sym}
 use native.Mathlib.Omega.{arith}
 use lib.ListN.{length}
@@ -10,7 +9,7 @@ use Rattle.bench.proofs.serve.serve_last.Statement.{statement}
 use Rattle.bench.proofs.serve.serve_last.Tie as tie
 
 finish-requires : tie.Need-finish-requires
-finish-requires c κs = let p = c .before .before .before .before .pre in (p .0 .fine, (p .0 .few, p .1 .0))
+finish-requires c κs = let p = c .before .before .before .before .pre in (p .0 .fine, (p .0 .sums, (p .0 .few, p .1 .0)))
 
 put-image-requires : tie.Need-put-image-requires
 put-image-requires c κs = (c .before .before .before .before .before .finish .ensures .fine, c .before .before .before .before .before .before .before .before .before .before .pre .1 .1 .0)

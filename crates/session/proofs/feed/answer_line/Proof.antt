@@ -15,15 +15,23 @@ applied-requires c κs =
     let start = c .before .before .before .before .before .before .before .before .before .before .before .before .before .before in
     (c .before .before .before .before .before .before .before .before .before .decide .ensures (start .args .s) refl refl refl (start .pre .0) .doable, c .before .before .before .before .before .settled .ensures)
 
+count-requires : tie.Need-count-requires
+count-requires c κs = c .before .before .before .before .before .before .before .before .before .before .before .before .before .before .before .pre .1 .0
+
+-- the buffer is as long as it was
+kept : (c : tie.After-say) → length (c .say .last .1 .1 .0) ≡ length (c .before .before .before .before .before .before .before .before .before .before .before .args .out .now)
+kept c = search needs
+
 returns : tie.Need-returns
 returns c =
-    let start = c .before .before .before .before .before .before .before .before .before .before .before .before .before .before .before in
-    let a = start .args in
-    let step = c .before .before .before .before .before .before .before .before .before .before .decide in
-    let say = c .before .before .before .before .say in
-    let kept : length (say .last .1 .1 .0) ≡ length (a .out .now) = search needs in
-    answers-taken (a .k) (a .s) (start .pre .0) (a .line .now) (a .out .now) (start .pre .1) (step .result) _
-    (step .ensures (a .s) refl refl refl (start .pre .0)) _ (c .before .before .before .before .before .before .settled .ensures) _ _ (say .ensures) kept _ (c .before .due-of .ensures) (c .applied .ensures)
+    let a = c .before in
+    let start = a .before .before .before .before .before .before .before .before .before .before .before .before .before .before .before in
+    let args = start .args in
+    let step = a .before .before .before .before .before .before .before .before .before .before .decide in
+    let say = a .before .before .before .before .say in
+    answers-taken (args .k) (args .s) (args .t) (start .pre .0) (args .line .now) (args .out .now) (start .pre .1 .1) (step .result) _
+    (step .ensures (args .s) refl refl refl (start .pre .0)) _ (a .before .before .before .before .before .before .settled .ensures) _ _ (say .ensures) (kept (a .before .before .before .before))
+    _ (c .count .ensures) _ (a .before .due-of .ensures) (a .applied .ensures)
 
 pub answer-line-spec : {M : Type 1} → statement M
 answer-line-spec =
@@ -34,5 +42,6 @@ answer-line-spec =
     (λ c κs. search needs)
     (λ c κs. search needs)
     applied-requires
-    (λ c. search needs)
+    count-requires
+    (λ c. kept (c .before .before .before .before .before))
     returns)

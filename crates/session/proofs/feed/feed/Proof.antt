@@ -1,62 +1,10 @@
--- `feed`: the held line first, then whole lines.
-use Prim.Native.Nat.{_≤_, _<_}
-use mathlib.Core.Path.{_≡_, sym}
-use native.Mathlib.Omega.{arith}
-use lib.ListN.{length}
-use lib.Seq.{length-take-le}
-use Rattle.lines.proofs.Laws.{end-inside}
-use Rattle.session.proofs.Running.{held-on, held-ends}
+-- `feed`: the held line, or whole lines where nothing is held.
 use borrow.Author.Needs.{needs}
 use Rattle.session.proofs.feed.feed.Statement.{statement}
 use Rattle.session.proofs.feed.feed.Tie as tie
 
-returns : tie.Need-returns
-returns c = rw (c .before .before .before .before .if1 .taken) (c .before .before .whole-lines .ensures)
-
-slice-aggregate-keep : tie.Need-slice-aggregate-keep
-slice-aggregate-keep c =
-    let start = c .before .before .before .before .before .before .before .before in
-    sym (length-take-le _ (start .args .block .now) (end-inside (start .args .block .now) 0 _ (omega arith) (c .before .line-end .ensures)))
-
--- ---- the held line, with what the block has of it
-
-abbrev start : tie.After-keep → tie.Start
-start k = k .before .before .before .before .before .before .before .before .before
-
 returns-2 : tie.Need-returns-2
-returns-2 c =
-    let k = c .before .before in
-    let s = start k in
-    let end = k .before .before .line-end in
-    rw (c .nothing-due .ensures) (held-on (s .args .k) (s .args .s) (s .args .block .now) (s .args .out .now) (end .result) (k .keep .result) (s .pre .0) (s .pre .1 .0) (end .ensures) (c .before .if2 .taken) (k .keep .ensures))
-
-few : (k : tie.After-keep) → k .keep .result .count ≤ length (k .keep .result .bytes)
-few k = let e : length (k .keep .result .bytes) ≡ 121 = search needs in omega (arith, e, k .keep .ensures .count)
-
-array-share-prefix-bytes : tie.Need-array-share-prefix-bytes
-array-share-prefix-bytes c = few (c .before .before)
-
-slice-aggregate-answer-line : tie.Need-slice-aggregate-answer-line
-slice-aggregate-answer-line c = sym (length-take-le _ _ (few (c .before .before .before)))
-
--- it ends within the block
-inside : (c : tie.Else2) → c .before .before .before .line-end .result < length (start (c .before) .args .block .now)
-inside c = omega (arith, end-inside _ 0 _ (omega arith) (c .before .before .before .line-end .ensures), c .if2 .left)
-
-add-t23 : tie.Need-add-t23
-add-t23 c =
-    let t = c .before .before .before .before .before .before .before .before .before in
-    record { fits = omega (arith, inside t, start (t .before) .good .1 .1 .0 .0) }
-
-returns-3 : tie.Need-returns-3
-returns-3 c =
-    let t = c .before .before .before .before .before .before .before .before .before in
-    let k = t .before in
-    let s = start k in
-    let end = k .before .before .line-end in
-    let answer = c .before .before .before .before .before .answer-line in
-    held-ends (s .args .k) (s .args .s) (s .args .block .now) (s .args .out .now) _ (end .result) (k .keep .result) (answer .result) (c .nothing-held .result) (s .pre .1 .0) (end .ensures)
-    (inside t) (k .keep .ensures) (answer .ensures) (c .nothing-held .ensures)
+returns-2 c = rw (c .before .before .before .before .before .before .if1 .left) (c .before .before .whole-lines .ensures)
 
 pub feed-spec : {M : Type 1} → statement M
 feed-spec =
@@ -64,16 +12,7 @@ feed-spec =
     (tie.spec
     (λ c κs. search needs)
     (λ c. search needs)
-    returns
-    (λ c κs. search needs)
-    slice-aggregate-keep
-    (λ c κs. search needs)
-    (λ c κs. search needs)
-    returns-2
-    array-share-prefix-bytes
-    slice-aggregate-answer-line
-    (λ c κs. search needs)
-    (λ c κs. search needs)
-    add-t23
     (λ c. search needs)
-    returns-3)
+    (λ c κs. search needs)
+    (λ c. search needs)
+    returns-2)

@@ -11,25 +11,25 @@ use Rattle.session.proofs.feed.finish.Tie as tie
 
 -- the held bytes lie within their array
 within : (c : tie.Start) → c .args .s .held .count ≤ length (c .args .s .held .bytes)
-within c = let e : length (c .args .s .held .bytes) ≡ 121 = search needs in omega (arith, e, c .pre .1 .0)
+within c = let e : length (c .args .s .held .bytes) ≡ 121 = search needs in omega (arith, e, c .pre .1 .1 .0)
 
 held-long : (c : tie.Start) → length (take (c .args .s .held .count) (c .args .s .held .bytes)) ≡ c .args .s .held .count
 held-long c = length-take-le (c .args .s .held .count) (c .args .s .held .bytes) (within c)
 
 returns : tie.Need-returns
 returns c =
-    let start = c .before .before .before .before .before .before in
+    let start = c .before .before .before .before .before .before .before in
     rw (c .nothing-due .ensures) (ends-none (start .args .k) (start .args .s) (start .args .out .now) (start .pre .0) (rw (c .before .if1 .taken) refl))
 
 array-share-prefix-bytes : tie.Need-array-share-prefix-bytes
-array-share-prefix-bytes c = within (c .before .before .before .before .before)
+array-share-prefix-bytes c = within (c .before .before .before .before .before .before)
 
 slice-aggregate-answer-line : tie.Need-slice-aggregate-answer-line
-slice-aggregate-answer-line c = sym (held-long (c .before .before .before .before .before .before))
+slice-aggregate-answer-line c = sym (held-long (c .before .before .before .before .before .before .before))
 
 returns-2 : tie.Need-returns-2
 returns-2 c =
-    let start = c .before .before .before .before .before .before .before .before .before .before in
+    let start = c .before .before .before .before .before .before .before .before .before .before .before in
     ends-answered (start .args .k) (start .args .s) (start .args .out .now) _ (c .before .before .answer-line .result)
     (omega (arith, held-long start, c .before .before .before .before .before .if1 .left)) (c .before .before .answer-line .ensures)
 

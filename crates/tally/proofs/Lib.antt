@@ -1,0 +1,2 @@
+pub mod Trimming  -- counts, and what is left of them
+pub mod Parts  -- the text, part by part
