@@ -23,7 +23,7 @@ use Rattle.engine.specs.declared.answer.Stepped.{Stepped}
 use Rattle.engine.specs.Answers.{returned}
 use Rattle.lines.specs.Feed.{Fed}
 use Rattle.lines.proofs.Feeding.{fed-nothing}
-use Rattle.lines.proofs.Places.{rest, rest-used, fed-more, fed-part}
+use Rattle.lines.proofs.Places.{rest, rest-used, fed-part, fed-behind}
 use Rattle.session.specs.Feed.{acting, fed, ended, endedActs}
 use Rattle.session.specs.Blocks.{heldOf, mannerOf, withDue, Feeds, Ends}
 use Rattle.session.specs.declared.due.Manner.{Manner}
@@ -92,9 +92,7 @@ module _ (k : Manner) (s : Session) (block : List ℕ) (t : Session) (at : ℕ) 
   pub part-handed : (buffer : List ℕ) (n : ℕ) → Imaged (f .due) (f .session .state) buffer n →
       given k s (take end block) .output ≡ given k s (take at block) .output ++ outgoing (take (f .written) after) (f .due) (take n buffer)
   part-handed buffer n i =
-      let to : at + (end - at) ≡ end = omega arith in
-      ap (λ (x : Fed State Act). x .output) (ap (λ (j : ℕ). given k s (take j block)) (sym to)
-      ∙ fed-more (acting (mannerOf k)) (heldOf s .state) (heldOf s .line) block at (heldOf t .state) (heldOf t .line) (sym held) (end - at))
+      fed-behind (acting (mannerOf k)) (heldOf s .state) (heldOf s .line) block at (heldOf t .state) (heldOf t .line) (sym held) end (omega arith)
       ∙ ap (λ (x : List Act). given k s (take at block) .output ++ x) (part-out buffer n i)
 
   -- and the session after it holds what s gives up to there

@@ -5,7 +5,7 @@ use mathlib.Core.List.{List, [], _++_}
 use native.Mathlib.Omega.{arith}
 use lib.ListN.{take, drop}
 use Rattle.lines.proofs.Feeding.{fed-nothing}
-use Rattle.lines.proofs.Places.{rest, rest-used, fed-more, fed-part}
+use Rattle.lines.proofs.Places.{rest, rest-used, fed-part, fed-behind}
 use Rattle.model.specs.Tally.{Tally, countedAll}
 use Rattle.model.proofs.Histories.Tally.{counted-append}
 use Rattle.tally.specs.Counts.{tallyOf}
@@ -49,10 +49,8 @@ module _ (s : Session) (block : List ℕ) (t : Session) (at : ℕ) (held : heldO
   -- its outcomes come behind those up to the place
   outcomes-more : outcomesGiven s (take end block) ≡ outcomesGiven s (take at block) ++ outcomesGiven t part
   outcomes-more =
-      let n : at + (end - at) ≡ end = omega arith in
-      let h : fedOutcomes (heldOf s .state) (heldOf s .line) (take at block) .held ≡ heldOf t = outcomes-held (heldOf s .state) (heldOf s .line) (take at block) ∙ sym held in
-      ap (λ (x : Fed). x .output) (ap (λ (i : ℕ). fedOutcomes (heldOf s .state) (heldOf s .line) (take i block)) (sym n)
-      ∙ fed-more numbering (heldOf s .state) (heldOf s .line) block at (heldOf t .state) (heldOf t .line) h (end - at))
+      fed-behind numbering (heldOf s .state) (heldOf s .line) block at (heldOf t .state) (heldOf t .line)
+      (outcomes-held (heldOf s .state) (heldOf s .line) (take at block) ∙ sym held) end (omega arith)
 
   -- so the session after it has counted them all
   pub part-counted : tallyOf (f .session .tally) ≡ countedAll (tallyOf (s .tally)) (outcomesGiven s (take end block))

@@ -16,7 +16,7 @@ lineAt block at = take (before (drop at block)) (drop at block)
 
 module _ {S X : Type 0} (m : Machine S X) (s₀ : S) (l₀ block : List ℕ) (at : ℕ) (s : S) (l : List ℕ) (held : fed m s₀ l₀ (take at block) .held ≡ holding s l) where
   -- as many bytes more
-  pub fed-more : (n : ℕ) → fed m s₀ l₀ (take (at + n) block) ≡ printing (fed m s₀ l₀ (take at block) .output) (fed m s l (take n (drop at block)))
+  fed-more : (n : ℕ) → fed m s₀ l₀ (take (at + n) block) ≡ printing (fed m s₀ l₀ (take at block) .output) (fed m s l (take n (drop at block)))
   fed-more n =
       ap (fed m s₀ l₀) (take-add at n block) ∙ fed-append m (take at block) s₀ l₀ (take n (drop at block))
       ∙ ap (λ (h : Held S). printing (fed m s₀ l₀ (take at block) .output) (fed m (h .state) (h .line) (take n (drop at block)))) held
@@ -61,11 +61,20 @@ module _ (block : List ℕ) (at : ℕ) where
       take-take used (length block - at) (drop at block) (omega (arith, rest-long)) ∙ ap (λ (k : ℕ). take k (drop at block)) n
 
 module _ {S X : Type 0} (m : Machine S X) (s₀ : S) (l₀ block : List ℕ) (at : ℕ) (s : S) (l : List ℕ) (held : fed m s₀ l₀ (take at block) .held ≡ holding s l) where
-  -- what is held after it
+  -- what was fed up to its end is what was fed before it, and then the part
+  fed-up-to : (end : ℕ) → at ≤ end → fed m s₀ l₀ (take end block) ≡ printing (fed m s₀ l₀ (take at block) .output) (fed m s l (take (end - at) (drop at block)))
+  fed-up-to end h =
+      let n : end ≡ at + (end - at) = omega arith in
+      ap (λ (k : ℕ). fed m s₀ l₀ (take k block)) n ∙ fed-more m s₀ l₀ block at s l held (end - at)
+
+  -- so what is held then is what the part leaves
   pub fed-part : (end : ℕ) → at ≤ end → fed m s l (take (end - at) (drop at block)) .held ≡ fed m s₀ l₀ (take end block) .held
-  fed-part end h =
-      let n : at + (end - at) ≡ end = omega arith in
-      ap (λ (x : Fed S X). x .held) (sym (fed-more m s₀ l₀ block at s l held (end - at)) ∙ ap (λ (k : ℕ). fed m s₀ l₀ (take k block)) n)
+  fed-part end h = ap (λ (x : Fed S X). x .held) (sym (fed-up-to end h))
+
+  -- and its output comes behind
+  pub fed-behind : (end : ℕ) → at ≤ end →
+      fed m s₀ l₀ (take end block) .output ≡ fed m s₀ l₀ (take at block) .output ++ fed m s l (take (end - at) (drop at block)) .output
+  fed-behind end h = ap (λ (x : Fed S X). x .output) (fed-up-to end h)
 
 -- ---- where bytes of the first line are held
 
