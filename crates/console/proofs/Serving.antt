@@ -9,7 +9,7 @@ use Rattle.lines.proofs.Places.{rest, rest-used, fed-part, fed-behind}
 use Rattle.model.specs.Tally.{Tally, countedAll}
 use Rattle.model.proofs.Histories.Tally.{counted-append}
 use Rattle.tally.specs.Counts.{tallyOf}
-use Rattle.session.specs.Feed.{Fed, answering, numbering, fedOutcomes}
+use Rattle.session.specs.Feed.{Fed, answering, numbering}
 use Rattle.session.specs.Blocks.{heldOf, Feeds}
 use Rattle.session.specs.declared.due.Manner.{Manner}
 use Rattle.session.specs.declared.feed.Session.{Session}
