@@ -5,4 +5,5 @@ pub mod Same
 pub mod Laid
 pub mod Reaching
 pub mod Ready
+pub mod Flattened
 pub mod Sums

@@ -10,9 +10,9 @@ use lib.IntN.{ℤ, natAbs}
 use lib.ListN.{length, length-map, List·getD-map}
 use Rattle.model.specs.Limits.{maxSystems, offsetLimit}
 use Rattle.model.specs.declared.Vec3.{Vec3}
-use Rattle.model.specs.Words.{offset?}
+use Rattle.model.specs.Words.{offset?, offsetsFine}
 use Rattle.model.specs.Memory.{System, Memory, systemAt, blank}
-use Rattle.model.specs.WellFormed.{memoryFine, offsetsFine}
+use Rattle.model.specs.WellFormed.{memoryFine}
 use Rattle.model.proofs.Memories.Fine.{Systems, own-of, offsets-of, fine-of, preds-within, blank-beyond}
 use Rattle.pose.specs.Poses.{Within}
 use Rattle.pose.proofs.Bounds.{within-origin}
@@ -28,7 +28,7 @@ offset-in : (z : ℤ) → offset? z ≡ true → natAbs z ≤ offsetLimit
 unfolding offset?
 offset-in z e = leb-true (natAbs z) offsetLimit e
 
-offsets-in : (t : Vec3) → offsetsFine t ≡ true → Within offsetLimit t
+pub offsets-in : (t : Vec3) → offsetsFine t ≡ true → Within offsetLimit t
 offsets-in t e =
     let o = offsets-of t e in
     record { x-within = offset-in (t .x) (o .x); y-within = offset-in (t .y) (o .y); z-within = offset-in (t .z) (o .z) }

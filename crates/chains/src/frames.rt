@@ -1,4 +1,5 @@
 // Frames: own offsets and turns beside the links, and the resultant that the walk along them reaches.
+use crate::links::Links;
 use crate::links::held;
 use facts::limits::MAX_SYSTEMS;
 use model::Memory;
@@ -7,11 +8,12 @@ use model::Turns;
 use model::Vec3;
 use pose::Pose;
 ghost use mathlib.Core.Path.{_≡_};
-ghost use Rattle.model.specs.Stored.{systemsOf};
+ghost use Prim.Native.Nat.{_≤_};
+ghost use Rattle.model.specs.Stored.{FineMemory, systemsOf};
 ghost use Rattle.pose.specs.Poses.{poseOf};
-ghost use Rattle.chains.specs.Flat.{predsOf};
+ghost use Rattle.chains.specs.Flat.{predsOf, LinksOf};
 ghost use Rattle.chains.specs.Frames.{framed, framesOf};
-ghost use Rattle.chains.specs.Walk.{walkOf, atFixed, linkOn, undoneOf, poseAt, Holds, Linkable, Laid, Enough, Near, Known, Reaches};
+ghost use Rattle.chains.specs.Walk.{walkOf, walked, atFixed, linkOn, undoneOf, poseAt, Holds, Linkable, Laid, Enough, Near, Known, Reaches};
 
 // Own offsets and turns, three numbers to a system.
 pub struct Frames {
@@ -127,6 +129,33 @@ pub fn reach(
     let pred = preds[i] as usize;
     let before = reach(offsets, turns, preds, stop, known, pred, depth - 1);
     linked(before, offsets, turns, i)
+}
+
+// The resultant of a place and its steps, where the links have been laid flat: one walk of its own, for which the frames are laid flat too.
+pub fn walk_from(m: Memory, links: Links, place: u8) -> Reached
+    requires { ⌜ FineMemory m ⌝ }
+    requires { ⌜ LinksOf (systemsOf m) (links .preds) (links .count) ⌝ }
+    requires { ⌜ place ≤ m .count ⌝ }
+    ensures { λ r. ⌜ walkOf r ≡ walked (systemsOf m) place ⌝ }
+{
+    let start = unmoved();
+    if place == 0 {
+        return start;
+    }
+    let frames = frames_of(m);
+    let preds = links.preds;
+    let offsets = frames.offsets;
+    let turns = frames.turns;
+    let count = m.count as usize;
+    reach(
+        &offsets,
+        &turns,
+        &preds[..count],
+        0,
+        start,
+        place as usize,
+        MAX_SYSTEMS,
+    )
 }
 
 // What undoes what was reached: the inverse pose, with the links that led there. A walk that goes on from it sees another system from this one.

@@ -15,7 +15,7 @@ use Rattle.model.specs.declared.System.{System as StoredSystem}
 use Rattle.model.specs.declared.Memory.{Memory as StoredMemory}
 use Rattle.model.specs.declared.State.{State as StoredState}
 use Rattle.model.specs.Memory.{Memory, State, isUser, placeNamed}
-use Rattle.model.specs.Request.{Change, asks, change, define, link, copy}
+use Rattle.model.specs.Request.{Change, asks, change, define, locate, link, copy}
 use Rattle.model.specs.Lists.{all, any}
 use Rattle.model.specs.Words.{reserved}
 use Rattle.model.specs.Refusals.{precedence, first, readingLadder, requestLadder, changeLadder, absent, noRoom}
@@ -116,6 +116,10 @@ module _ (st : State) (m : Memory) where
   pub define-room : (k : Kind) (n : List ℕ) (t : Vec3) (u : Turns) → first (changeLadder st m (define k n t u)) ≡ 0 → noRoom (m .systems) (placeNamed (m .systems) n) ≡ false
   unfolding changeLadder inOrder applies all any
   define-room k n t u e = or-false _ _ (none-applies (drop 2 precedence) (changeLadder st m (define k n t u)) refl refl e 13) .0
+
+  pub locate-room : (n : List ℕ) → first (changeLadder st m (locate n)) ≡ 0 → noRoom (m .systems) (placeNamed (m .systems) n) ≡ false
+  unfolding changeLadder inOrder applies all any
+  locate-room n e = or-false _ _ (none-applies (drop 2 precedence) (changeLadder st m (locate n)) refl refl e 13) .0
 
   pub copy-room : (s d : List ℕ) → first (changeLadder st m (copy s d)) ≡ 0 → noRoom (m .systems) (placeNamed (m .systems) d) ≡ false
   unfolding changeLadder inOrder applies all any

@@ -33,15 +33,15 @@ module _ {s : StoredState} {d : Decision} where
   unfolding done
   applied-keep e = record { state = rw (e, done) refl; shape = λ h. h }
 
-  pub applied-error : {n : ℕ} → d .deed ≡ SetError n → Applied s d (record { volatile = s .volatile; permanent = s .permanent; level = s .level; error = n })
+  pub applied-error : {n : ℕ} → d .deed ≡ SetError n → Applied s d (record { volatile = s .volatile; permanent = s .permanent; position = s .position; level = s .level; error = n })
   unfolding done shaped
   applied-error e = record { state = rw (e, done) refl; shape = λ h. h }
 
-  pub applied-level : {n : ℕ} → d .deed ≡ SetLevel n → Applied s d (record { volatile = s .volatile; permanent = s .permanent; level = n; error = s .error })
+  pub applied-level : {n : ℕ} → d .deed ≡ SetLevel n → Applied s d (record { volatile = s .volatile; permanent = s .permanent; position = s .position; level = n; error = s .error })
   unfolding done shaped
   applied-level e = record { state = rw (e, done) refl; shape = λ h. h }
 
-  pub applied-save : d .deed ≡ Save → Applied s d (record { volatile = s .volatile; permanent = s .volatile; level = s .level; error = s .error })
+  pub applied-save : d .deed ≡ Save → Applied s d (record { volatile = s .volatile; permanent = s .volatile; position = s .position; level = s .level; error = s .error })
   unfolding done
   applied-save e = record { state = rw (e, done) refl; shape = λ h. let v = shape-parts s h .0 in shape-both _ v v }
 
@@ -50,7 +50,7 @@ module _ {s : StoredState} {d : Decision} where
   -- m stands for the one that is due, and has shape where the old memories have
   applied-memory : (m : StoredMemory) {due : Memory} → memoryOf m ≡ due → done (d .deed) (systemOf (d .system)) (stateOf s) ≡ withVolatile (stateOf s) due →
       (memoryShaped (s .volatile) ≡ true → memoryShaped (s .permanent) ≡ true → memoryShaped m ≡ true) →
-      Applied s d (record { volatile = m; permanent = s .permanent; level = s .level; error = s .error })
+      Applied s d (record { volatile = m; permanent = s .permanent; position = s .position; level = s .level; error = s .error })
   applied-memory m is e keeps =
       record {
         state = ap (withVolatile (stateOf s)) is ∙ sym e;
@@ -59,14 +59,14 @@ module _ {s : StoredState} {d : Decision} where
 
   pub applied-put : {k : ℕ} → d .deed ≡ Put k → Doable (s .volatile) d → (m : StoredMemory) →
       (memoryOf m ≡ putAt (memoryOf (s .volatile)) k (systemOf (d .system))) × (memoryShaped (s .volatile) ≡ true → nameShaped (d .system) ≡ true → memoryShaped m ≡ true) →
-      Applied s d (record { volatile = m; permanent = s .permanent; level = s .level; error = s .error })
+      Applied s d (record { volatile = m; permanent = s .permanent; position = s .position; level = s .level; error = s .error })
   unfolding done
   applied-put e can m put = applied-memory m (put .0) (rw (e, done) refl) (λ v p. put .1 v (can .named))
 
   -- a removal, by the number that was settled
   pub applied-remove : {n k : ℕ} → d .deed ≡ Remove k → n ≡ numberIn d (memoryOf (s .permanent)) → n ≡ 0 → (m : StoredMemory) →
       (memoryOf m ≡ removedAt (memoryOf (s .volatile)) k) × (memoryShaped (s .volatile) ≡ true → memoryShaped m ≡ true) →
-      Applied s d (record { volatile = m; permanent = s .permanent; level = s .level; error = s .error })
+      Applied s d (record { volatile = m; permanent = s .permanent; position = s .position; level = s .level; error = s .error })
   unfolding done removing
   applied-remove {n} e t z m gone =
       let free = not-needed (nameInUse (memoryOf (s .permanent)) (systemOf (d .system) .name)) (sym (rw e at t) ∙ z) in
@@ -77,7 +77,7 @@ module _ {s : StoredState} {d : Decision} where
       not-needed false h = refl
 
   pub applied-held : {n k : ℕ} → d .deed ≡ Remove k → n ≡ numberIn d (memoryOf (s .permanent)) → (n ≡ 0 → ⊥) →
-      Applied s d (record { volatile = s .volatile; permanent = s .permanent; level = s .level; error = n })
+      Applied s d (record { volatile = s .volatile; permanent = s .permanent; position = s .position; level = s .level; error = n })
   unfolding done removing shaped
   applied-held {n} e t z =
       let h = needed (nameInUse (memoryOf (s .permanent)) (systemOf (d .system) .name)) (rw e at t) in
@@ -88,15 +88,15 @@ module _ {s : StoredState} {d : Decision} where
       needed false h = absurd (z h)
 
   pub applied-enable : {e : Enabled} → d .deed ≡ Enable e →
-      Applied s d (record { volatile = record { systems = s .volatile .systems; count = s .volatile .count; enabled = e }; permanent = s .permanent; level = s .level; error = s .error })
+      Applied s d (record { volatile = record { systems = s .volatile .systems; count = s .volatile .count; enabled = e }; permanent = s .permanent; position = s .position; level = s .level; error = s .error })
   unfolding done memoryShaped
   applied-enable {e} q = applied-memory (record { systems = s .volatile .systems; count = s .volatile .count; enabled = e }) refl (rw (q, done) refl) (λ v p. v)
 
-  pub applied-restore : d .deed ≡ Restore → Applied s d (record { volatile = s .permanent; permanent = s .permanent; level = s .level; error = s .error })
+  pub applied-restore : d .deed ≡ Restore → Applied s d (record { volatile = s .permanent; permanent = s .permanent; position = s .position; level = s .level; error = s .error })
   unfolding done
   applied-restore e = applied-memory (s .permanent) refl (rw (e, done) refl) (λ v p. p)
 
   pub applied-reset : d .deed ≡ Reset → (m : StoredMemory) → (memoryOf m ≡ factory) × (memoryShaped m ≡ true) →
-      Applied s d (record { volatile = m; permanent = s .permanent; level = s .level; error = s .error })
+      Applied s d (record { volatile = m; permanent = s .permanent; position = s .position; level = s .level; error = s .error })
   unfolding done
   applied-reset e m new = applied-memory m (new .0) (rw (e, done) refl) (λ v p. new .1)

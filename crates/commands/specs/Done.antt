@@ -26,8 +26,8 @@ done (SetError n) x st = withError st n
 done (Put k) x st = withVolatile st (putAt (st .volatile) k x)
 done (Remove k) x st = cond (nameInUse (st .permanent) (x .name)) (withError st 20) (withVolatile st (removedAt (st .volatile) k))
 done (Enable e) x st = withVolatile st (holding (st .volatile .systems) e)
-done (SetLevel n) x st = record { volatile = st .volatile; permanent = st .permanent; level = n; error = st .error }
-done Save x st = record { volatile = st .volatile; permanent = st .volatile; level = st .level; error = st .error }
+done (SetLevel n) x st = record { volatile = st .volatile; permanent = st .permanent; position = st .position; level = n; error = st .error }
+done Save x st = record { volatile = st .volatile; permanent = st .volatile; position = st .position; level = st .level; error = st .error }
 done Restore x st = withVolatile st (st .permanent)
 done Reset x st = withVolatile st factory
 

@@ -2,6 +2,7 @@
 use mathlib.Core.Path.{_≡_}
 use lib.ListN.{length}
 use Rattle.model.specs.Base.{ℕ, List, true, not, eqb}
+use Rattle.model.specs.declared.Position.{Position}
 use Rattle.model.specs.declared.Memory.{Memory as StoredMemory}
 use Rattle.model.specs.Memory.{Memory, State, Meant, meant, find, systemAt}
 use Rattle.model.specs.Request.{Change}
@@ -40,6 +41,10 @@ pub record Sees (m : StoredMemory) (a b : List ℕ) (k : Looked) : Type 0 where
 -- [Errors, end] the number of the change's refusal in this memory, at this level
 abbrev pub NumberOf : ℕ → Memory → Change → ℕ → Type 0
 NumberOf level m c n = (st : State) → st .level ≡ level → n ≡ first (changeLadder st m c)
+
+-- [Errors, end; 02 §1] the same of a change that goes by the platform's position, and by no level
+abbrev pub NumberAt : Position → Memory → Change → ℕ → Type 0
+NumberAt p m c n = (st : State) → st .position ≡ p → n ≡ first (changeLadder st m c)
 
 -- [02 §9] the ladder without 20, which the permanent memory tells
 abbrev pub withoutTwenty : List Rung → List Rung

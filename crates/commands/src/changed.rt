@@ -126,6 +126,7 @@ pub fn applied(s: State, d: Decision, number: u8) -> State
 {
     let mut volatile = s.volatile;
     let mut permanent = s.permanent;
+    let position = s.position;
     let mut level = s.level;
     let mut error = s.error;
     let deed = d.deed;
@@ -149,6 +150,7 @@ pub fn applied(s: State, d: Decision, number: u8) -> State
     State {
         volatile,
         permanent,
+        position,
         level,
         error,
     }

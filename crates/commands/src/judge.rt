@@ -9,16 +9,21 @@ use crate::numbers::Rungs;
 use crate::numbers::first_number;
 use crate::subject::Looked;
 use facts::kinds::group_of;
+use memory::stage::aslant;
 use model::Kind;
 use model::Memory;
+use model::Position;
 use model::Turns;
 use model::Vec3;
+use text::values::offsets_fine;
+ghost use mathlib.Core.Path.{_≡_};
 ghost use mathlib.Core.List.{List};
 ghost use Prim.Native.Nat.{ℕ, _≤_};
 ghost use Rattle.model.specs.Limits.{maxSystems};
-ghost use Rattle.model.specs.Request.{define, link, copy, remove, enable};
+ghost use Rattle.model.specs.Request.{define, locate, link, copy, remove, enable};
+ghost use Rattle.model.specs.Stage.{spot};
 ghost use Rattle.model.specs.Stored.{memoryOf};
-ghost use Rattle.commands.specs.Subject.{Sees, NumberOf, NumberButTwenty};
+ghost use Rattle.commands.specs.Subject.{Sees, NumberOf, NumberAt, NumberButTwenty};
 
 // A definition of the first name.
 pub fn judge_define(k: Looked, level: u8, kind: Kind) -> u8
@@ -29,12 +34,35 @@ pub fn judge_define(k: Looked, level: u8, kind: Kind) -> u8
     let links = k.links;
     let e = k.enabled;
     first_number(Rungs {
+        beyond: false,
         absent: false,
         reserved: n.reserved,
         locked: locked(level, group_of(kind)),
         other: other_type(n, kind),
         used: used_in(links, e, n.place),
         ring: false,
+        aslant: false,
+        full: no_room(n.place, links.count),
+    })
+}
+
+// The definition of the first name where the stage is: at an offset, with the platform at a position. 6 is judged here, since no line shows it.
+pub fn judge_locate(k: Looked, p: Position, at: Vec3) -> u8
+    requires { ⌜ k .links .count ≤ maxSystems ⌝ }
+    ensures { λ r. ⌜ ((m : Memory) (x y : List ℕ) → Sees m x y k → at ≡ spot (memoryOf m) p .at → NumberAt p (memoryOf m) (locate x) r) ⌝ }
+{
+    let n = k.first;
+    let links = k.links;
+    let e = k.enabled;
+    first_number(Rungs {
+        beyond: !offsets_fine(at),
+        absent: false,
+        reserved: n.reserved,
+        locked: false,
+        other: other_type(n, Kind::Ksf),
+        used: used_in(links, e, n.place),
+        ring: false,
+        aslant: aslant(p),
         full: no_room(n.place, links.count),
     })
 }
@@ -51,12 +79,14 @@ pub fn judge_link(k: Looked, level: u8) -> u8
     let e = k.enabled;
     let ties = ties_of(links, e, a.place, b.place);
     first_number(Rungs {
+        beyond: false,
         absent: a.absent | b.absent,
         reserved: a.reserved,
         locked: locked(level, group_a),
         other: wrong_pred(a, b),
         used: ties.used,
         ring: ties.ring,
+        aslant: false,
         full: false,
     })
 }
@@ -74,12 +104,14 @@ pub fn judge_copy(k: Looked, level: u8) -> u8
     let e = k.enabled;
     let over = ties_of(links, e, d.place, s.place);
     first_number(Rungs {
+        beyond: false,
         absent: s.absent,
         reserved: s.reserved | d.reserved,
         locked: locked(level, group),
         other: other_type(d, kind),
         used: over.used,
         ring: over.ring,
+        aslant: false,
         full: no_room(d.place, links.count),
     })
 }
@@ -94,12 +126,14 @@ pub fn judge_remove(k: Looked, level: u8) -> u8
     let links = k.links;
     let e = k.enabled;
     first_number(Rungs {
+        beyond: false,
         absent: a.absent,
         reserved: a.reserved,
         locked: locked(level, group),
         other: false,
         used: used_in(links, e, a.place),
         ring: false,
+        aslant: false,
         full: false,
     })
 }
@@ -111,12 +145,14 @@ pub fn judge_enable(k: Looked, level: u8) -> u8
     let a = k.first;
     let group = a.group;
     first_number(Rungs {
+        beyond: false,
         absent: a.absent,
         reserved: false,
         locked: locked(level, group),
         other: false,
         used: false,
         ring: false,
+        aslant: false,
         full: false,
     })
 }

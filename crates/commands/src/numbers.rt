@@ -1,6 +1,8 @@
 // One ladder for every change of the systems: which numbers apply, and the first of them.
 use facts::numbers::ABSENT;
 use facts::numbers::ACCEPTED;
+use facts::numbers::ASLANT;
+use facts::numbers::BEYOND;
 use facts::numbers::FULL;
 use facts::numbers::IN_USE;
 use facts::numbers::LOCKED;
@@ -15,12 +17,14 @@ ghost use Rattle.commands.specs.Rungs.{rungsOf};
 // Which conditions hold; the order in which they are tried is the definitions' `precedence`. A number that a change does not know has a condition that
 // is false. 20 is none of these: `changed::settled` gives it, last.
 pub struct Rungs {
+    pub beyond: bool,
     pub absent: bool,
     pub reserved: bool,
     pub locked: bool,
     pub other: bool,
     pub used: bool,
     pub ring: bool,
+    pub aslant: bool,
     pub full: bool,
 }
 
@@ -34,28 +38,17 @@ fn rung(number: u8, applies: bool, later: u8) -> u8
     later
 }
 
+// From the last rung to the first.
 pub fn first_number(r: Rungs) -> u8
     ensures { λ n. ⌜ n ≡ first (rungsOf r) ⌝ }
 {
-    rung(
-        ABSENT,
-        r.absent,
-        rung(
-            RESERVED,
-            r.reserved,
-            rung(
-                LOCKED,
-                r.locked,
-                rung(
-                    OTHER_TYPE,
-                    r.other,
-                    rung(
-                        IN_USE,
-                        r.used,
-                        rung(RING, r.ring, rung(FULL, r.full, ACCEPTED)),
-                    ),
-                ),
-            ),
-        ),
-    )
+    let n = rung(FULL, r.full, ACCEPTED);
+    let n = rung(ASLANT, r.aslant, n);
+    let n = rung(RING, r.ring, n);
+    let n = rung(IN_USE, r.used, n);
+    let n = rung(OTHER_TYPE, r.other, n);
+    let n = rung(LOCKED, r.locked, n);
+    let n = rung(RESERVED, r.reserved, n);
+    let n = rung(ABSENT, r.absent, n);
+    rung(BEYOND, r.beyond, n)
 }

@@ -7,7 +7,9 @@ use crate::judge::judge_copy;
 use crate::judge::judge_define;
 use crate::judge::judge_enable;
 use crate::judge::judge_link;
+use crate::judge::judge_locate;
 use crate::judge::judge_remove;
+use crate::stage::spot;
 use crate::subject::Looked;
 use facts::numbers::ACCEPTED;
 use memory::edit::fresh_system;
@@ -15,17 +17,23 @@ use memory::edit::relinked;
 use memory::edit::renamed;
 use memory::enable::enabling;
 use model::Kind;
+use model::Memory;
 use model::Name;
+use model::Position;
 use model::State;
 use model::System;
 use model::Turns;
 use model::Vec3;
+use pose::rotation::shown_of;
 ghost use mathlib.Core.Path.{_≡_};
 ghost use mathlib.Core.List.{List};
 ghost use Prim.Native.Nat.{ℕ, _≤_};
 ghost use Rattle.model.specs.Limits.{nameLimit, maxSystems};
-ghost use Rattle.model.specs.Request.{define, link, copy, remove, enable};
-ghost use Rattle.model.specs.Stored.{bytesOf};
+ghost use Rattle.model.specs.Request.{define, locate, link, copy, remove, enable};
+ghost use mathlib.Core.Bool.{true};
+ghost use Rattle.model.specs.Stage.{positionFine};
+ghost use Rattle.model.specs.Stored.{FineMemory, bytesOf, systemsOf};
+ghost use Rattle.chains.specs.Flat.{LinksOf};
 ghost use Rattle.commands.specs.Subject.{Sees};
 ghost use Rattle.commands.specs.Done.{Decides};
 
@@ -52,6 +60,27 @@ pub fn define(k: Looked, level: u8, kind: Kind, n: Name, offset: Vec3, turns: Tu
     let x = k.first;
     let e = k.enabled;
     let made = fresh_system(e, kind, n, offset, turns);
+    putting(x.place, made)
+}
+
+// KSF: a frame where the stage is. Its turns are the triple that the spot's rotation is shown as.
+pub fn locate(m: Memory, p: Position, k: Looked, n: Name) -> Decision
+    requires { ⌜ FineMemory m ⌝ }
+    requires { ⌜ positionFine p ≡ true ⌝ }
+    requires { ⌜ LinksOf (systemsOf m) (k .links .preds) (k .links .count) × (n .len ≤ nameLimit) ⌝ }
+    ensures { λ r. ⌜ ((s : State) (y : List ℕ) → s .volatile ≡ m → s .position ≡ p → Sees m (bytesOf n) y k → Decides s (locate (bytesOf n)) r) ⌝ }
+{
+    let links = k.links;
+    let here = spot(m, links, p);
+    let at = here.at;
+    let number = judge_locate(k, p, at);
+    if number != ACCEPTED {
+        return refused(number);
+    }
+    let x = k.first;
+    let e = k.enabled;
+    let turns = shown_of(here.rot);
+    let made = fresh_system(e, Kind::Ksf, n, at, turns);
     putting(x.place, made)
 }
 

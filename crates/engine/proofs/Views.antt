@@ -4,9 +4,10 @@ use mathlib.Core.Path.{_≡_, refl, ap}
 use mathlib.Core.List.{List}
 use mathlib.Core.Bool.{true, false, _&&_}
 use mathlib.Core.Logic.{⊎-elim}
+use Rattle.model.specs.declared.Position.{Position}
 use Rattle.model.specs.declared.State.{State as StoredState}
 use Rattle.model.specs.WellFormed.{wellFormed}
-use Rattle.model.specs.Stored.{FineState, FineMemory, ofOutcome, ofBegun, shaped, stateOf, viewOf, lineAnswer, imageAnswer, restartAnswer, useAnswer}
+use Rattle.model.specs.Stored.{FineState, FineMemory, ofOutcome, ofBegun, shaped, stateOf, viewOf, lineAnswer, imageAnswer, restartAnswer, positionAnswer, useAnswer}
 use Rattle.model.specs.Machine.{refusesUse}
 use Rattle.model.proofs.Basics.{and-split, either}
 use Rattle.model.proofs.Views.{view-holds, view-shapeless}
@@ -37,6 +38,13 @@ module _ (s : StoredState) (ill : shaped s && wellFormed (stateOf s) ≡ false) 
       parted
       (λ e. rw (view-shapeless s e) refl)
       (λ e w. rw (view-holds s e) (ap ofBegun (other-numbers-exact .restart-one (stateOf s) w)))
+
+  pub ill-position : (p : Position) → positionAnswer (viewOf s) p ≡ record { state = viewOf s; number = 1 }
+  unfolding positionAnswer
+  ill-position p =
+      parted
+      (λ e. rw (view-shapeless s e) refl)
+      (λ e w. rw (view-holds s e) (ap ofBegun (other-numbers-exact .position-one (stateOf s) p w)))
 
   pub ill-line : (l b : List ℕ) → lineAnswer (viewOf s) l b ≡ record { state = viewOf s; number = 1; count = 0; buffer = b }
   unfolding lineAnswer

@@ -18,6 +18,7 @@ use commands::systems::copy;
 use commands::systems::define;
 use commands::systems::enable;
 use commands::systems::link;
+use commands::systems::locate;
 use commands::systems::remove;
 use commands::whole::reset;
 use commands::whole::restore;
@@ -31,14 +32,17 @@ use facts::numbers::UNKNOWN;
 use facts::numbers::UNREADABLE;
 use model::Memory;
 use model::Name;
+use model::Position;
 use model::State;
 use request::Asked;
 use request::Request;
 ghost use mathlib.Core.Path.{_≡_};
+ghost use mathlib.Core.Bool.{true};
 ghost use Prim.Native.Nat.{_≤_};
 ghost use lib.ListN.{length};
 ghost use Rattle.model.specs.Limits.{nameLimit, bufferLimit};
 ghost use Rattle.model.specs.Request.{reading};
+ghost use Rattle.model.specs.Stage.{positionFine};
 ghost use Rattle.model.specs.Machine.{stepped};
 ghost use Rattle.model.specs.Checklist.{asksToSave};
 ghost use Rattle.model.specs.Stored.{FineMemory, FineState, bytesOf, memoryOf, ofOutcome, stateOf};
@@ -49,11 +53,12 @@ ghost use Rattle.engine.specs.Answers.{answeredOf};
 ghost use Rattle.engine.specs.Taken.{Takes};
 
 // What was read is judged: what it does, or the number with which it is refused.
-fn carry_out(m: Memory, level: u8, error: u8, q: Request, reply: &mut [u8]) -> Step
+fn carry_out(m: Memory, p: Position, level: u8, error: u8, q: Request, reply: &mut [u8]) -> Step
     requires { ⌜ FineMemory m ⌝ }
+    requires { ⌜ positionFine p ≡ true ⌝ }
     requires { ⌜ (q .first .len ≤ nameLimit) × (q .second .len ≤ nameLimit) ⌝ }
     requires { ⌜ bufferLimit ≤ length (now reply) ⌝ }
-    ensures { λ r. ⌜ ((s : State) → s .volatile ≡ m → s .level ≡ level → s .error ≡ error → Takes s (asksToSave (readingOf q)) (obeyed (stateOf s) (readingOf q) (now (reply .entry))) r (now (reply .exit))) ⌝ }
+    ensures { λ r. ⌜ ((s : State) → s .volatile ≡ m → s .position ≡ p → s .level ≡ level → s .error ≡ error → Takes s (asksToSave (readingOf q)) (obeyed (stateOf s) (readingOf q) (now (reply .entry))) r (now (reply .exit))) ⌝ }
 {
     let asked = q.asked;
     let a = q.first;
@@ -63,6 +68,7 @@ fn carry_out(m: Memory, level: u8, error: u8, q: Request, reply: &mut [u8]) -> S
         Asked::Malformed => silent(refused(MALFORMED)),
         Asked::Beyond => silent(refused(BEYOND)),
         Asked::Define(kind) => silent(define(look(m, a, b), level, kind, a, q.offset, q.turns)),
+        Asked::Locate => silent(locate(m, p, look(m, a, b), a)),
         Asked::Link => silent(link(look(m, a, b), level)),
         Asked::Copy => silent(copy(look(m, a, b), level, b)),
         Asked::Remove => silent(remove(look(m, a, b), level)),
@@ -90,10 +96,11 @@ fn subject_of(m: Memory, a: Name, b: Name) -> Subject
     k.first
 }
 
-// What a line does, in any well-formed state of this volatile memory, level and last error.
-pub fn decide(m: Memory, level: u8, error: u8, line: &[u8], reply: &mut [u8]) -> Step
+// What a line does, in any well-formed state of this volatile memory, position, level and last error. (Only KSF asks for the position.)
+pub fn decide(m: Memory, p: Position, level: u8, error: u8, line: &[u8], reply: &mut [u8]) -> Step
     requires { ⌜ FineMemory m ⌝ }
-    ensures { λ r. ⌜ ((s : State) → s .volatile ≡ m → s .level ≡ level → s .error ≡ error → FineState s → Takes s (asksToSave (reading (now (line .entry)))) (stepped (stateOf s) (now (line .entry)) (now (reply .entry))) r (now (reply .exit))) ⌝ }
+    requires { ⌜ positionFine p ≡ true ⌝ }
+    ensures { λ r. ⌜ ((s : State) → s .volatile ≡ m → s .position ≡ p → s .level ≡ level → s .error ≡ error → FineState s → Takes s (asksToSave (reading (now (line .entry)))) (stepped (stateOf s) (now (line .entry)) (now (reply .entry))) r (now (reply .exit))) ⌝ }
 {
     if reply.len() < BUFFER_LIMIT {
         return silent(refused(SHORT));
@@ -102,7 +109,7 @@ pub fn decide(m: Memory, level: u8, error: u8, line: &[u8], reply: &mut [u8]) ->
         return silent(refused(UNREADABLE));
     }
     let q = request::read(line);
-    carry_out(m, level, error, q, reply)
+    carry_out(m, p, level, error, q, reply)
 }
 
 // A line in a well-formed state.
@@ -111,7 +118,7 @@ pub fn obey(s: State, line: &[u8], reply: &mut [u8]) -> Stepped
     ensures { λ r. ⌜ answeredOf r (now (reply .exit)) ≡ ofOutcome (stepped (stateOf s) (now (line .entry)) (now (reply .entry))) ⌝ }
 {
     let m = s.volatile;
-    let step = decide(m, s.level, s.error, line, reply);
+    let step = decide(m, s.position, s.level, s.error, line, reply);
     let decision = step.decision;
     let number = settled(s.permanent, decision);
     let length = step.length;

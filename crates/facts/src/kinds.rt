@@ -14,6 +14,7 @@ pub fn code_of(k: Kind) -> u8
         Kind::Ksw => 3,
         Kind::Ksb => 4,
         Kind::Kld => 5,
+        Kind::Ksf => 6,
     }
 }
 
@@ -26,6 +27,7 @@ pub fn group_of(k: Kind) -> Group
         Kind::Ksw => Group::Operating,
         Kind::Ksb => Group::Orientational,
         Kind::Kld => Group::Levelling,
+        Kind::Ksf => Group::Operating,
     }
 }
 
@@ -38,6 +40,7 @@ pub fn turns_only(k: Kind) -> bool
         Kind::Ksw => false,
         Kind::Ksb => true,
         Kind::Kld => false,
+        Kind::Ksf => false,
     }
 }
 

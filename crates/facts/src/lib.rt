@@ -5,5 +5,5 @@ pub mod limits; // limits.rt: how many, how long, how far
 pub mod numbers; // numbers.rt: the refusal numbers, each with its sentence
 pub mod kinds; // kinds.rt: what is said of a type
 pub mod groups; // groups.rt: what is said of a group
-pub mod halves; // halves.rt: the halves of a pair
+pub mod halves; // halves.rt: the place of the enabled operating system, and the halves of a pair
 pub mod names; // names.rt: the empty name

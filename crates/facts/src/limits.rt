@@ -9,6 +9,9 @@ pub const NAME_LIMIT: usize = 16;
 // An own offset, either way, in millionths of a millimetre.
 pub const OFFSET_LIMIT: u64 = 2000000000;
 
+// An angle of the platform's position, either way, in millionths of a degree.
+pub const ANGLE_LIMIT: u64 = 360000000;
+
 // Digits before a number's point.
 pub const WHOLE_DIGITS: u8 = 4;
 

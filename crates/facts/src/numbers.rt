@@ -47,6 +47,9 @@ pub const FULL: u8 = 13;
 // The bytes are no image.
 pub const NO_IMAGE: u8 = 14;
 
+// The platform stands turned: an angle of its position is not zero.
+pub const ASLANT: u8 = 15;
+
 // The name is in use in the permanent memory, so that the next start needs it.
 pub const NEEDED: u8 = 20;
 
@@ -66,5 +69,6 @@ pub fn of_line(n: u8) -> bool
         | (n == IN_USE)
         | (n == NEEDED)
         | (n == RING)
+        | (n == ASLANT)
         | (n == FULL)
 }

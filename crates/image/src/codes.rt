@@ -25,7 +25,8 @@ pub fn kind_coded(code: u64) -> Coded
         3 => Coded::Known(Kind::Ksw, Group::Operating),
         4 => Coded::Known(Kind::Ksb, Group::Orientational),
         5 => Coded::Known(Kind::Kld, Group::Levelling),
-        0 | 6..=18446744073709551615 => Coded::Refused,
+        6 => Coded::Known(Kind::Ksf, Group::Operating),
+        0 | 7..=18446744073709551615 => Coded::Refused,
     }
 }
 

@@ -4,17 +4,19 @@ use mathlib.Core.Path.{_≡_, refl, sym, ap, _∙_}
 use mathlib.Core.List.{List}
 use mathlib.Core.Option.{some, none}
 use mathlib.Core.Bool.{true, false}
+use Rattle.model.specs.declared.Position.{Position}
 use Rattle.model.specs.declared.State.{State as StoredState}
 use Rattle.model.specs.declared.Memory.{Memory as StoredMemory}
 use Rattle.model.specs.Memory.{started}
+use Rattle.model.specs.Stage.{positionFine}
 use Rattle.model.specs.Refusals.{short}
 use Rattle.model.specs.Image.{image, accepted}
 use Rattle.model.specs.Lists.{Search}
 use Rattle.model.specs.Use.{useTest}
-use Rattle.model.specs.Machine.{stepped, writeImage, startImage, answered, tellsUse}
-use Rattle.model.specs.Stored.{FineState, holds, ofOutcome, ofBegun, memoryShaped, stateOf, memoryOf, viewOf, lineAnswer, imageAnswer, restartAnswer, useAnswer}
+use Rattle.model.specs.Machine.{stepped, writeImage, startImage, positioned, answered, tellsUse}
+use Rattle.model.specs.Stored.{FineState, holds, ofOutcome, ofBegun, Restarted, memoryShaped, shaped, stateOf, memoryOf, viewOf, lineAnswer, imageAnswer, restartAnswer, positionAnswer, useAnswer}
 use Rattle.model.proofs.Ladder.Exact.{start-none, start-some, use-fine}
-use Rattle.model.proofs.Ladder.Refusing.{restart-fine, image-short, image-fine}
+use Rattle.model.proofs.Ladder.Refusing.{restart-fine, image-short, image-fine, position-beyond, position-taken}
 use Rattle.image.specs.declared.ImageRead.{ImageRead}
 use Rattle.image.specs.Accepted.{Answers}
 use Rattle.machine.specs.Calls.{startedWith, begunOf}
@@ -44,6 +46,25 @@ module _ (s : StoredState) (f : FineState s) where
   pub use-taken : (n : List ℕ) (t : Search) → t ≡ useTest (stateOf s .volatile) n → tellsUse t ≡ useAnswer (viewOf s) n
   unfolding useAnswer
   use-taken n t e = rw (view-holds s (f .shape)) (ap tellsUse e ∙ sym (use-fine (stateOf s) n (f .formed)))
+
+-- ---- the position
+
+module _ (s : StoredState) (f : FineState s) (p : Position) where
+  position-is : positionAnswer (viewOf s) p ≡ ofBegun (positioned (stateOf s) p)
+  unfolding positionAnswer
+  position-is = rw (view-holds s (f .shape)) refl
+
+  -- [Error 6]
+  pub position-refused : positionFine p ≡ false → begunOf (record { state = s; number = 6 }) ≡ positionAnswer (viewOf s) p
+  position-refused e = rw (position-is, position-beyond (stateOf s) p (f .formed) e, view-holds s (f .shape)) refl
+
+  -- [02 §1] accepted: the position alone is another
+  pub position-told : positionFine p ≡ true →
+      begunOf (record { state = record { volatile = s .volatile; permanent = s .permanent; position = p; level = s .level; error = s .error }; number = 0 }) ≡ positionAnswer (viewOf s) p
+  unfolding shaped
+  position-told e =
+      let moved : StoredState = record { volatile = s .volatile; permanent = s .permanent; position = p; level = s .level; error = s .error } in
+      rw (position-is, position-taken (stateOf s) p (f .formed) e) (ap {B = Restarted} (λ v. record { state = v; number = 0 }) (view-holds moved (f .shape)))
 
 -- ---- starts
 

@@ -3,18 +3,24 @@
 use engine::answer::Stepped;
 use facts::limits::BUFFER_LIMIT;
 use facts::numbers::ACCEPTED;
+use facts::numbers::BEYOND;
 use facts::numbers::ILL_FORMED;
 use facts::numbers::NO_IMAGE;
 use facts::numbers::SHORT;
 use memory::factory::factory_memory;
 use memory::fine::state_fine;
+use memory::stage::position_fine;
 use memory::used::use_of;
+use model::Angles;
 use model::Memory;
+use model::Position;
 use model::State;
+use model::Vec3;
 ghost use mathlib.Core.Path.{_≡_};
+ghost use Rattle.model.specs.Memory.{zeroPosition};
 ghost use Rattle.model.specs.Machine.{startFactory, refusesUse};
 ghost use Rattle.model.specs.Stored.{viewOf, holds};
-ghost use Rattle.model.specs.Histories.{LinePromise, RestartPromise, WritePromise, ImagePromise, UsePromise};
+ghost use Rattle.model.specs.Histories.{LinePromise, RestartPromise, PositionPromise, WritePromise, ImagePromise, UsePromise};
 ghost use Rattle.engine.specs.Answers.{returned};
 ghost use Rattle.machine.specs.Calls.{returnedAlone, startedWith, usageOf};
 
@@ -24,13 +30,25 @@ pub struct Begun {
     pub number: u8,
 }
 
-// A start with a memory: both memories, level 0, no error.
+// The position that is zero on every axis.
+fn zero_position() -> Position
+    ensures { λ r. ⌜ r ≡ zeroPosition ⌝ }
+{
+    Position {
+        offset: Vec3 { x: 0, y: 0, z: 0 },
+        angles: Angles { u: 0, v: 0, w: 0 },
+    }
+}
+
+// A start with a memory: both memories, the platform at zero, level 0, no error.
 fn started(m: Memory) -> State
     ensures { λ r. ⌜ r ≡ startedWith m ⌝ }
 {
+    let position = zero_position();
     State {
         volatile: m,
         permanent: m,
+        position,
         level: 0,
         error: ACCEPTED,
     }
@@ -54,6 +72,30 @@ pub fn restart(s: State) -> Begun
     }
     let saved = s.permanent;
     let state = started(saved);
+    Begun {
+        state,
+        number: ACCEPTED,
+    }
+}
+
+// The platform's position is told: X Y Z in millionths of a millimetre, U V W in millionths of a degree.
+pub fn set_position(s: State, p: Position) -> Begun
+    ensures { λ r. ⌜ PositionPromise s p (returnedAlone r) ⌝ }
+{
+    let mut state = s;
+    if !state_fine(s) {
+        return Begun {
+            state,
+            number: ILL_FORMED,
+        };
+    }
+    if !position_fine(p) {
+        return Begun {
+            state,
+            number: BEYOND,
+        };
+    }
+    state.position = p;
     Begun {
         state,
         number: ACCEPTED,

@@ -13,6 +13,7 @@ use Rattle.model.specs.declared.State.{State as StoredState}
 use Rattle.model.specs.Lists.{all}
 use Rattle.model.specs.Refusals.{ofLine?}
 use Rattle.model.specs.Chain.{noRing}
+use Rattle.model.specs.Stage.{positionFine}
 use Rattle.model.specs.WellFormed.{systemFine, namesDiffer, enabledFine, memoryFine, wellFormed}
 use Rattle.model.specs.Stored.{systemOf, systemsOf, memoryOf, stateOf, nameShaped, memoryShaped, shaped}
 use Rattle.model.proofs.Basics.{and-assoc, and-true, and-false}
@@ -59,11 +60,11 @@ rotate true true v = sym (and-true v)
 rotate true false v = sym (and-false v)
 rotate false f v = sym (and-false v)
 
--- a stored state: its level and last error, and each memory
+-- a stored state: its level and last error, its position, and each memory
 pub state-judged : (s : StoredState) → shaped s && wellFormed (stateOf s)
-    ≡ (leb (s .level) 1 && (eqb (s .error) 0 || ofLine? (s .error)))
+    ≡ ((leb (s .level) 1 && (eqb (s .error) 0 || ofLine? (s .error))) && positionFine (s .position))
     && ((memoryShaped (s .volatile) && memoryFine (memoryOf (s .volatile))) && (memoryShaped (s .permanent) && memoryFine (memoryOf (s .permanent))))
 unfolding shaped wellFormed
 state-judged s =
-    rw (and-assoc (memoryFine (memoryOf (s .volatile)) && memoryFine (memoryOf (s .permanent))) (leb (s .level) 1) (eqb (s .error) 0 || ofLine? (s .error)), and-swap (memoryShaped (s .volatile)) (memoryFine (memoryOf (s .volatile))) (memoryShaped (s .permanent)) (memoryFine (memoryOf (s .permanent))))
+    rw (and-assoc (memoryFine (memoryOf (s .volatile)) && memoryFine (memoryOf (s .permanent))) (leb (s .level) 1) (eqb (s .error) 0 || ofLine? (s .error)), and-assoc (memoryFine (memoryOf (s .volatile)) && memoryFine (memoryOf (s .permanent))) (leb (s .level) 1 && (eqb (s .error) 0 || ofLine? (s .error))) (positionFine (s .position)), and-swap (memoryShaped (s .volatile)) (memoryFine (memoryOf (s .volatile))) (memoryShaped (s .permanent)) (memoryFine (memoryOf (s .permanent))))
     (rotate (memoryShaped (s .volatile) && memoryShaped (s .permanent)) (memoryFine (memoryOf (s .volatile)) && memoryFine (memoryOf (s .permanent))) _)

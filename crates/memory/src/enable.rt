@@ -51,6 +51,7 @@ fn enabled_user(e: Enabled, kind: Kind, place: u8) -> Enabled
         Kind::Ksw => with_operating(e, OperatingPart::Pair(place, tool_half(o))),
         Kind::Ksb => with_orientational(e, place),
         Kind::Kld => with_levelling(e, place),
+        Kind::Ksf => with_operating(e, OperatingPart::Single(place)),
     }
 }
 

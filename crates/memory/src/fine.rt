@@ -3,6 +3,7 @@ use crate::distinct::names_differ;
 use crate::kinds::is_kind;
 use crate::kinds::kind_codes;
 use crate::names::name_fine;
+use crate::stage::position_fine;
 use chains::links::held;
 use chains::links::links_of;
 use chains::links::no_ring;
@@ -20,7 +21,7 @@ use model::State;
 use model::System;
 use model::Turns;
 use model::Vec3;
-use text::values::offset_fine;
+use text::values::offsets_fine;
 ghost use mathlib.Core.Path.{_≡_};
 ghost use mathlib.Core.Bool.{_&&_, _||_};
 ghost use lib.Dec.{eqb, leb};
@@ -28,16 +29,10 @@ ghost use mathlib.Core.List.{List};
 ghost use Rattle.model.specs.Memory.{System as SystemOf};
 ghost use Rattle.model.specs.Chain.{noRing};
 ghost use Rattle.model.specs.Refusals.{ofLine?};
-ghost use Rattle.model.specs.WellFormed.{offsetsFine, noOffset, turnsFine, ownFine, operatingFine, enabledFine, memoryFine, wellFormed};
+ghost use Rattle.model.specs.WellFormed.{noOffset, turnsFine, ownFine, operatingFine, enabledFine, memoryFine, wellFormed};
 ghost use Rattle.model.specs.Stored.{systemOf, systemsOf, memoryOf, stateOf, memoryShaped, shaped};
 ghost use Rattle.memory.specs.Codes.{codesOf};
 ghost use Rattle.memory.specs.Fine.{storedFine, storedAllFine};
-
-fn offsets_fine(t: Vec3) -> bool
-    ensures { λ r. ⌜ r ≡ offsetsFine t ⌝ }
-{
-    offset_fine(t.x) & offset_fine(t.y) & offset_fine(t.z)
-}
 
 fn no_offset(t: Vec3) -> bool
     ensures { λ r. ⌜ r ≡ noOffset t ⌝ }
@@ -99,7 +94,7 @@ fn operating_fine(codes: &[u8], o: OperatingPart) -> bool
     ensures { λ r. ⌜ ((l : List SystemOf) → codesOf l ≡ now (codes .entry) → r ≡ operatingFine l o) ⌝ }
 {
     match o {
-        OperatingPart::Single(p) => is_kind(codes, Kind::Ksd, p),
+        OperatingPart::Single(p) => is_kind(codes, Kind::Ksd, p) | is_kind(codes, Kind::Ksf, p),
         OperatingPart::Pair(w, t) => {
             is_kind(codes, Kind::Ksw, w) & is_kind(codes, Kind::Kst, t) & ((0 < w) | (0 < t))
         }
@@ -155,13 +150,17 @@ pub fn memory_fine(m: Memory) -> bool
     ring_free(m)
 }
 
-// A state has shape and is well formed.
+// A state has shape and is well formed. The few numbers are looked at first, since a memory takes far longer.
 pub fn state_fine(s: State) -> bool
     ensures { λ r. ⌜ r ≡ shaped s && wellFormed (stateOf s) ⌝ }
 {
     let level = s.level;
     let error = s.error;
     if !values_fine(level, error) {
+        return false;
+    }
+    let position = s.position;
+    if !position_fine(position) {
         return false;
     }
     let v = s.volatile;

@@ -7,4 +7,5 @@ pub mod find;
 pub mod fine;
 pub mod kinds;
 pub mod names;
+pub mod stage; // what is asked of the platform's position
 pub mod used;

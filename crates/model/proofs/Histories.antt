@@ -15,5 +15,7 @@ pub mod Between  -- the same over stored states, and between systems in use
 pub mod Switched  -- document 02 §7: what the power switch brings back
 pub mod LongBench  -- document 02 §4: what was saved under the former limit
 pub mod NextStart  -- document 02 §9: what the next start needs is not removed
+pub mod Positions  -- document 02 §1: where the platform stands
+pub mod Located  -- the frame where the stage is
 pub mod Tally  -- document 02 §10: what a tally says of the outcomes
 pub mod Bench  -- the program of the bench: what goes where, and what the file holds

@@ -8,7 +8,8 @@ use Rattle.model.specs.Types.{Rot, Vec3, Turns}
 use Rattle.model.specs.Pose.{Pose, turned, rotOf, placed, neutral, followed, inverse, triple, place, shown}
 use Rattle.model.specs.Memory.{System, Memory}
 use Rattle.model.specs.Chain.{hop, steps, poseOver, resultant}
-use Rattle.model.specs.WellFormed.{offsetsFine, memoryFine}
+use Rattle.model.specs.Words.{offsetsFine}
+use Rattle.model.specs.WellFormed.{memoryFine}
 
 -- [02 §5] the comparison in every law: one offset and one shown triple
 pub record Alike (p q : Pose) : Type 0 where

@@ -8,7 +8,7 @@ use Rattle.model.specs.Limits.{bufferLimit}
 use Rattle.model.specs.Memory.{State}
 use Rattle.model.specs.Image.{image}
 use Rattle.model.specs.Machine.{Begun, began, stepped, restart, startFactory, startImage}
-use Rattle.model.specs.Trace.{Call, line, afterCalls, printed, session, outcomes, inputLines, answersTo}
+use Rattle.model.specs.Trace.{Call, line, entering, afterCalls, printed, session, outcomes, inputLines, answersTo}
 use Rattle.model.specs.Demand.{Start, factory-start, image-start, startState}
 use Rattle.model.specs.PowerSwitch.{saves, noneSaves, lastSaved}
 
@@ -54,7 +54,7 @@ dueActs stored n st = storedActs stored st ++ reasonActs n
 
 -- [ksbench, save] an accepted WPA is stored
 abbrev pub dueStore : Manner → State → List ℕ → List ℕ → Bool
-dueStore k st l b = k .storing && saves st (line l b)
+dueStore k st l b = k .storing && saves st (entering (line l b))
 
 -- [ksbench, at a terminal] a refusal's number; 0 in a pipe, and for an accepted line
 abbrev pub dueReason : Manner → State → List ℕ → List ℕ → ℕ
@@ -134,7 +134,7 @@ fileOf (image-start bytes m e) = some bytes
 -- the lines as calls of the machine
 unfoldable pub sent : State → List ℕ → List (List ℕ) → List Call
 sent st b [] = []
-sent st b (l ∷ ls) = line l b ∷ sent (stepped st l b .state) (stepped st l b .buffer) ls
+sent st b (l ∷ ls) = entering (line l b) ∷ sent (stepped st l b .state) (stepped st l b .buffer) ls
 
 -- the image of the volatile memory at each accepted WPA, in order. (The permanent memory is not looked at)
 unfoldable pub savedImages : State → List Call → List (List ℕ)

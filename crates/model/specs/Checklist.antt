@@ -11,12 +11,12 @@ use Rattle.model.specs.Kinds.{ofGroup}
 use Rattle.model.specs.Memory.{Memory, State, Ref, nameOf, typeOf, predName, isUser, find, named}
 use Rattle.model.specs.Chain.{hop, chain}
 use Rattle.model.specs.Use.{operatingPlaces, inGroup}
-use Rattle.model.specs.Request.{Change, Query, Reading, reading, unknown, malformed, beyond, asks, change, list, lastError, define, link, copy, remove, enable, setLevel, save, restore, reset}
+use Rattle.model.specs.Request.{Change, Query, Reading, reading, unknown, malformed, beyond, asks, change, list, lastError, define, locate, link, copy, remove, enable, setLevel, save, restore, reset}
 use Rattle.model.specs.Effects.{withError}
 use Rattle.model.specs.Refusals.{ladder}
 use Rattle.model.specs.Reply.{listing, everySystem, enabledLine}
 use Rattle.model.specs.Machine.{Outcome, Begun, stepped, restart, writeImage, startImage}
-use Rattle.model.specs.Trace.{Call, Line, afterCalls, afterLines}
+use Rattle.model.specs.Trace.{Call, Input, afterCalls, afterInputs}
 use Rattle.model.specs.Claims.{applies, triedBefore}
 use Rattle.model.specs.Demand.{Start, startState, noneTaken, Replies, Held, HeldPart, alone, pair, frames}
 
@@ -29,7 +29,7 @@ pub record Allowed (m : Memory) (types : List (List ℕ)) (r : Ref) : Type 0 whe
 
 -- one system, or work and tool, not both the substitute
 pub data OneOrPair (m : Memory) : List Ref → Type 0 where
-  one : (r : Ref) → Allowed m (ascii "ZERO" ∷ ascii "KSD" ∷ []) r → OneOrPair m (r ∷ [])
+  one : (r : Ref) → Allowed m (ascii "ZERO" ∷ ascii "KSD" ∷ ascii "KSF" ∷ []) r → OneOrPair m (r ∷ [])
   work-and-tool : (w t : Ref) → Allowed m (ascii "ZERO" ∷ ascii "KSW" ∷ []) w → Allowed m (ascii "ZERO" ∷ ascii "KST" ∷ []) t →
       (typeOf (m .systems) w ≡ ascii "ZERO" → typeOf (m .systems) t ≡ ascii "ZERO" → ⊥) → OneOrPair m (w ∷ t ∷ [])
 
@@ -83,6 +83,7 @@ pub record LeadsDown (st : State) : Type 0 where
 -- a change of the system of that name
 unfoldable pub touches : Change → List ℕ → Bool
 touches (define k n t u) a = same n a
+touches (locate n) a = same n a
 touches (link n b) a = same n a
 touches (copy s n) a = same n a
 touches (remove n) a = same n a
@@ -125,6 +126,7 @@ asksToSave unknown = false
 asksToSave malformed = false
 asksToSave beyond = false
 asksToSave (asks (change (define k n t u))) = false
+asksToSave (asks (change (locate n))) = false
 asksToSave (asks (change (link a b))) = false
 asksToSave (asks (change (copy s d))) = false
 asksToSave (asks (change (remove a))) = false
@@ -149,7 +151,7 @@ startFrom o = startImage (take (o .count) (o .buffer))
 abbrev pub switchedOn : Outcome → State
 switchedOn o = startFrom o .state
 
--- st saved by an accepted WPA; then lines without another; then a restart, or an image written and a start from the bytes written
+-- st saved by an accepted WPA; then lines without another, and positions; then a restart, or an image written and a start from the bytes written
 pub record ComesBack (st : State) (later : State) : Type 0 where
   pub memory : restart later .state .volatile ≡ st .volatile
   pub lists : ListsAlike st (restart later .state)
@@ -159,8 +161,8 @@ pub record ComesBack (st : State) (later : State) : Type 0 where
 abbrev pub SavedComesBack : State → Type 0
 SavedComesBack st =
     (line b : List ℕ) → asksToSave (reading line) ≡ true → stepped st line b .number ≡ 0 →
-    (later : List Line) → noneTaken asksToSave (stepped st line b .state) later ≡ true →
-    ComesBack st (afterLines (stepped st line b .state) later)
+    (later : List Input) → noneTaken asksToSave (stepped st line b .state) later ≡ true →
+    ComesBack st (afterInputs (stepped st line b .state) later)
 
 -- ---- all four, after every history
 

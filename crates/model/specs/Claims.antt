@@ -4,27 +4,29 @@ use Prim.Native.Nat.{_≤_}
 use mathlib.Core.Path.{_≡_}
 use mathlib.Core.Logic.{_↔_}
 use Rattle.model.specs.Base.{ℕ, List, [], _∷_, Bool, true, false, cond, not, _&&_, _||_, none, some, eqb}
-use Rattle.model.specs.Types.{Kind, Vec3, Turns}
+use Rattle.model.specs.Types.{Kind, Vec3, Turns, Position}
 use Rattle.model.specs.Lists.{any}
 use Rattle.model.specs.Kinds.{ofKind}
 use Rattle.model.specs.Memory.{Memory, State, started, restarted}
-use Rattle.model.specs.Words.{legalName}
-use Rattle.model.specs.WellFormed.{offsetsFine, turnsFine, noOffset, wellFormed}
-use Rattle.model.specs.Request.{reading, asks, change, define, copy, setLevel}
+use Rattle.model.specs.Words.{legalName, offsetsFine}
+use Rattle.model.specs.Stage.{positionFine}
+use Rattle.model.specs.WellFormed.{turnsFine, noOffset, wellFormed}
+use Rattle.model.specs.Request.{reading, asks, change, define, locate, copy, setLevel}
 use Rattle.model.specs.Refusals.{precedence, Rung, short, ladder}
-use Rattle.model.specs.Effects.{withError}
+use Rattle.model.specs.Effects.{withError, withPosition}
 use Rattle.model.specs.Image.{image, accepted}
 use Rattle.model.specs.Use.{useTest}
-use Rattle.model.specs.Machine.{Outcome, refused, answered, began, stepped, restart, writeImage, startFactory, startImage, tellsUse, refusesUse, askUse}
-use Rattle.model.specs.Trace.{Call, Line, afterCalls, afterLines}
+use Rattle.model.specs.Machine.{Outcome, refused, answered, began, stepped, restart, writeImage, positioned, startFactory, startImage, tellsUse, refusesUse, askUse}
+use Rattle.model.specs.Trace.{Call, Input, afterCalls, afterInputs}
 use Rattle.model.specs.Demand.{Start, startState}
 
 -- ---- refusals change nothing
 
--- [Errors, end] both memories, the level and every byte of the buffer are as they were, and no length is told
+-- [Errors, end] both memories, the position, the level and every byte of the buffer are as they were, and no length is told
 pub record Untouched (st : State) (b : List ℕ) (o : Outcome) : Type 0 where
   pub volatile : o .state .volatile ≡ st .volatile
   pub permanent : o .state .permanent ≡ st .permanent
+  pub position : o .state .position ≡ st .position
   pub level : o .state .level ≡ st .level
   pub buffer : o .buffer ≡ b
   pub count : o .count ≡ 0
@@ -35,6 +37,7 @@ pub record RefusalsChangeNothing : Type 0 where
   pub one : (st : State) (line b : List ℕ) → stepped st line b .number ≡ 1 → stepped st line b .state ≡ st
   pub others : (st : State) (line b : List ℕ) → 2 ≤ stepped st line b .number → stepped st line b .state ≡ withError st (stepped st line b .number)
   pub restarts : (st : State) → (restart st .number ≡ 0 → ⊥) → restart st .state ≡ st
+  pub positions : (st : State) (p : Position) → (positioned st p .number ≡ 0 → ⊥) → positioned st p .state ≡ st
   pub images : (st : State) (b : List ℕ) → (writeImage st b .number ≡ 0 → ⊥) → writeImage st b ≡ refused st (writeImage st b .number) b
   pub image-keeps : (st : State) (b : List ℕ) → writeImage st b .state ≡ st
 
@@ -77,7 +80,8 @@ pub record NumberExact (st : State) (line b : List ℕ) : Type 0 where
   pub ordered : inOrder precedence (ladder st line b) ≡ true
   pub once : noneTwice precedence ≡ true
 
--- [Image; Errors 1, 2, 14; 02 §2] the calls that are no lines: a restart and the question of use meet only 1, writing only 1 and 2, a start only 14
+-- [Image; Errors 1, 2, 6, 14; 02 §2, §1] the calls that are no lines: a restart and the question of use meet only 1, writing only 1 and 2, a start only 14,
+-- the position 1 and then 6
 pub record OtherNumbersExact : Type 0 where
   pub restart-one : (st : State) → wellFormed st ≡ false → restart st ≡ began st 1
   pub restart-taken : (st : State) → wellFormed st ≡ true → restart st ≡ began (restarted st) 0
@@ -86,6 +90,9 @@ pub record OtherNumbersExact : Type 0 where
   pub image-taken : (st : State) (b : List ℕ) → wellFormed st ≡ true → short b ≡ false → writeImage st b ≡ answered st (image (st .permanent)) b
   pub start-refused : (bytes : List ℕ) → accepted bytes ≡ none → startImage bytes ≡ began startFactory 14
   pub start-taken : (bytes : List ℕ) (m : Memory) → accepted bytes ≡ some m → startImage bytes ≡ began (started m) 0
+  pub position-one : (st : State) (p : Position) → wellFormed st ≡ false → positioned st p ≡ began st 1
+  pub position-six : (st : State) (p : Position) → wellFormed st ≡ true → positionFine p ≡ false → positioned st p ≡ began st 6
+  pub position-taken : (st : State) (p : Position) → wellFormed st ≡ true → positionFine p ≡ true → positioned st p ≡ began (withPosition st p) 0
   pub use-one : (st : State) (n : List ℕ) → wellFormed st ≡ false → askUse st n ≡ refusesUse
   pub use-taken : (st : State) (n : List ℕ) → wellFormed st ≡ true → askUse st n ≡ tellsUse (useTest (st .volatile) n)
 
@@ -101,6 +108,7 @@ pub record LegalDefinition (k : Kind) (n : List ℕ) (t : Vec3) (u : Turns) : Ty
 -- [A line; Errors 5, 6] whatever its bytes
 pub record AsksNothingIllegal : Type 0 where
   pub definitions : (line : List ℕ) (k : Kind) (n : List ℕ) (t : Vec3) (u : Turns) → reading line ≡ asks (change (define k n t u)) → LegalDefinition k n t u
+  pub locations : (line n : List ℕ) → reading line ≡ asks (change (locate n)) → legalName n ≡ true
   pub copies : (line s d : List ℕ) → reading line ≡ asks (change (copy s d)) → legalName d ≡ true
   pub levels : (line : List ℕ) (n : ℕ) → reading line ≡ asks (change (setLevel n)) → n ≤ 1
 
@@ -110,8 +118,9 @@ pub record AsksNothingIllegal : Type 0 where
 pub record WellFormedKept : Type 0 where
   pub line : (st : State) (bytes b : List ℕ) → wellFormed st ≡ true → wellFormed (stepped st bytes b .state) ≡ true
   pub restarting : (st : State) → wellFormed st ≡ true → wellFormed (restart st .state) ≡ true
+  pub positioning : (st : State) (p : Position) → wellFormed st ≡ true → wellFormed (positioned st p .state) ≡ true
   pub factory : wellFormed startFactory ≡ true
   pub image : (bytes : List ℕ) → wellFormed (startImage bytes .state) ≡ true
   pub calls : (st : State) (cs : List Call) → wellFormed st ≡ true → wellFormed (afterCalls st cs) ≡ true
-  pub lines : (st : State) (cs : List Line) → wellFormed st ≡ true → wellFormed (afterLines st cs) ≡ true
-  pub history : (start : Start) (first : List Call) (second : List Line) → wellFormed (afterLines (afterCalls (startState start) first) second) ≡ true
+  pub inputs : (st : State) (cs : List Input) → wellFormed st ≡ true → wellFormed (afterInputs st cs) ≡ true
+  pub history : (start : Start) (first : List Call) (second : List Input) → wellFormed (afterInputs (afterCalls (startState start) first) second) ≡ true

@@ -3,18 +3,18 @@ use Prim.Native.Nat.{_≤_, _<_}
 use mathlib.Core.Path.{_≡_}
 use mathlib.Core.Logic.{_⊎_}
 use Rattle.model.specs.Base.{ℕ, List, [], _∷_, _++_, map, Bool, true, false, not, _&&_, some, eqb, length}
-use Rattle.model.specs.Types.{Kind, Ksd, Kst, Ksw, Ksb, Kld, Operating, Orientational, Levelling, OperatingPart, Single, Pair}
+use Rattle.model.specs.Types.{Kind, Ksd, Kst, Ksw, Ksb, Kld, Ksf, Operating, Orientational, Levelling, OperatingPart, Single, Pair}
 use Rattle.model.specs.Ascii.{ascii}
 use Rattle.model.specs.Limits.{maxSystems, bufferLimit}
 use Rattle.model.specs.Memory.{System, Memory, State, Ref, systemAt, nameOf}
 use Rattle.model.specs.Pose.{Pose}
 use Rattle.model.specs.Chain.{hop, chain, resultant}
 use Rattle.model.specs.Use.{inGroup}
-use Rattle.model.specs.Request.{Change, Reading, reading, unknown, malformed, beyond, asks, change, list, lastError, define, link, copy, remove, enable, setLevel, save, restore, reset}
+use Rattle.model.specs.Request.{Change, Reading, reading, unknown, malformed, beyond, asks, change, list, lastError, define, locate, link, copy, remove, enable, setLevel, save, restore, reset}
 use Rattle.model.specs.Reply.{decimal, listing, everySystem, resultantLine}
 use Rattle.model.specs.Image.{accepted}
 use Rattle.model.specs.Machine.{answered, stepped, startFactory, startImage}
-use Rattle.model.specs.Trace.{Call, Line, afterCalls, afterLines}
+use Rattle.model.specs.Trace.{Call, Input, line, moved, entered, afterCalls, afterInputs}
 
 -- [Two lists 1] a start: from the factory, or from bytes that are accepted as an image
 pub data Start : Type 0 where
@@ -28,6 +28,7 @@ startState (image-start bytes m e) = startImage bytes .state
 -- [demand 3] KEN, RPA and DPA; KEN? is another command
 unfoldable pub changesEnabled : Change → Bool
 changesEnabled (define k n t u) = false
+changesEnabled (locate n) = false
 changesEnabled (link a b) = false
 changesEnabled (copy s d) = false
 changesEnabled (remove a) = false
@@ -45,15 +46,18 @@ asksToEnable (asks (change c)) = changesEnabled c
 asksToEnable (asks (list q)) = false
 asksToEnable (asks lastError) = false
 
--- [Two lists 1] none of the lines that ask for such a thing is accepted, each judged at its turn
-unfoldable pub noneTaken : (Reading → Bool) → State → List Line → Bool
+-- [Two lists 1; 02 §1] a line asks for such a thing, and is accepted at its turn; a position asks for nothing
+abbrev pub taken : (Reading → Bool) → State → Input → Bool
+taken p st (line l b) = eqb (stepped st l b .number) 0 && p (reading l)
+taken p st (moved q) = false
+
+-- [Two lists 1] so it is with none of them
+unfoldable pub noneTaken : (Reading → Bool) → State → List Input → Bool
 noneTaken p st [] = true
-noneTaken p st (c ∷ cs) =
-    let o = stepped st (c .bytes) (c .buffer) in
-    not (eqb (o .number) 0 && p (reading (c .bytes))) && noneTaken p (o .state) cs
+noneTaken p st (c ∷ cs) = not (taken p st c) && noneTaken p (entered st c) cs
 
 -- [demand 3] no accepted KEN, RPA or DPA among the lines
-abbrev pub steady : State → List Line → Bool
+abbrev pub steady : State → List Input → Bool
 steady = noneTaken asksToEnable
 
 -- [Two lists 2] what is compared of an enabled system: its name, its chain by name, its resultant and steps
@@ -99,9 +103,9 @@ frames m =
 abbrev pub Defined : List System → Kind → ℕ → Type 0
 Defined l k p = (p ≡ 0) ⊎ ((p ≤ length l) × (systemAt l p .kind ≡ k))
 
--- [Memory 3] one of ZERO or KSD, or a KSW and a KST of which one, never both, may be the substitute ZERO
+-- [Memory 3; 02 §1] one of ZERO, KSD or KSF, or a KSW and a KST of which one, never both, may be the substitute ZERO
 abbrev pub OperatingDefined : List System → OperatingPart → Type 0
-OperatingDefined l (Single p) = Defined l Ksd p
+OperatingDefined l (Single p) = Defined l Ksd p ⊎ Defined l Ksf p
 OperatingDefined l (Pair w t) = Defined l Ksw w × Defined l Kst t × ((w ≡ 0) × (t ≡ 0) → ⊥)
 
 -- [Memory 3; demand 3] the chain of the system at place q ends, within 16 steps, where its group's chains end
@@ -149,6 +153,6 @@ pub record AfterBoth (st st′ : State) : Type 0 where
 -- demand 3
 abbrev pub Demand3 : Type 0
 Demand3 =
-    (start : Start) (first : List Call) (second : List Line) →
+    (start : Start) (first : List Call) (second : List Input) →
     steady (afterCalls (startState start) first) second ≡ true →
-    AfterBoth (afterCalls (startState start) first) (afterLines (afterCalls (startState start) first) second)
+    AfterBoth (afterCalls (startState start) first) (afterInputs (afterCalls (startState start) first) second)

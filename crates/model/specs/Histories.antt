@@ -1,10 +1,10 @@
 -- Histories of the public calls over stored states, as the owners' program holds them: each call is given the stored state that the one before it returned,
--- and all that is known of what it returned is the equation that it promises (`lineAnswer`, `restartAnswer` of Stored.antt). Demand 3 and the checklist hold of
+-- and all that is known of what it returned is the equation that it promises (`lineAnswer`, `positionAnswer`, `restartAnswer` of Stored.antt). Demand 3 and the checklist hold of
 -- what such states stand for. The statements only; they are proved in proofs/Histories.
 use Prim.Native.Nat.{_≤_, _<_}
 use mathlib.Core.Path.{_≡_}
 use Rattle.model.specs.Base.{ℕ, List, [], _∷_, map, Bool, true, not, _&&_, some, eqb, length, take}
-use Rattle.model.specs.Types.{StoredState}
+use Rattle.model.specs.Types.{Position, StoredState}
 use Rattle.model.specs.Ascii.{ascii}
 use Rattle.model.specs.Limits.{bufferLimit}
 use Rattle.model.specs.Memory.{Memory}
@@ -12,10 +12,10 @@ use Rattle.model.specs.Request.{reading}
 use Rattle.model.specs.Reply.{listing, everySystem, resultantLine}
 use Rattle.model.specs.Image.{accepted}
 use Rattle.model.specs.Machine.{Usage, startFactory, startImage}
-use Rattle.model.specs.Trace.{Call, Line, line, restarting}
+use Rattle.model.specs.Trace.{Call, Input, line, moved, entering, restarting}
 use Rattle.model.specs.Demand.{Start, factory-start, image-start, asksToEnable, AfterBoth}
 use Rattle.model.specs.Checklist.{Checked}
-use Rattle.model.specs.Stored.{stateOf, viewOf, holds, Answered, Restarted, ofBegun, lineAnswer, imageAnswer, restartAnswer, useAnswer}
+use Rattle.model.specs.Stored.{stateOf, viewOf, holds, Answered, Restarted, ofBegun, lineAnswer, imageAnswer, restartAnswer, positionAnswer, useAnswer}
 
 -- ---- what a call returns, and what it promises of that
 
@@ -44,6 +44,10 @@ LinePromise s l b r = standsFor r ≡ lineAnswer (viewOf s) l b
 abbrev pub RestartPromise : StoredState → ReturnedAlone → Type 0
 RestartPromise s r = standsAlone r ≡ restartAnswer (viewOf s)
 
+-- [02 §1] the promise of the position, told in s
+abbrev pub PositionPromise : StoredState → Position → ReturnedAlone → Type 0
+PositionPromise s p r = standsAlone r ≡ positionAnswer (viewOf s) p
+
 -- [Image] the promise of writing the image in s, into the lent buffer b
 abbrev pub WritePromise : StoredState → List ℕ → Returned → Type 0
 WritePromise s b r = standsFor r ≡ imageAnswer (viewOf s) b
@@ -66,20 +70,25 @@ pub data Begins : Start → StoredState → Type 0 where
 -- [Two lists 1] the first list: from a stored state to the one that its last call returned
 pub data Calls : StoredState → List Call → StoredState → Type 0 where
   none : (s : StoredState) → Calls s [] s
-  then-line : (s s′ : StoredState) (l b : List ℕ) (r : Returned) (cs : List Call) → LinePromise s l b r → Calls (r .state) cs s′ → Calls s (line l b ∷ cs) s′
+  then-line : (s s′ : StoredState) (l b : List ℕ) (r : Returned) (cs : List Call) → LinePromise s l b r → Calls (r .state) cs s′ → Calls s (entering (line l b) ∷ cs) s′
+  then-moved : (s s′ : StoredState) (p : Position) (r : ReturnedAlone) (cs : List Call) →
+      PositionPromise s p r → Calls (r .state) cs s′ → Calls s (entering (moved p) ∷ cs) s′
   then-restart : (s s′ : StoredState) (r : ReturnedAlone) (cs : List Call) → RestartPromise s r → Calls (r .state) cs s′ → Calls s (restarting ∷ cs) s′
 
--- [Two lists 1] the second list, with the numbers that its lines returned
-pub data Lines : StoredState → List Line → List ℕ → StoredState → Type 0 where
-  none : (s : StoredState) → Lines s [] [] s
-  then-line : (s s′ : StoredState) (c : Line) (r : Returned) (cs : List Line) (ns : List ℕ) →
-      LinePromise s (c .bytes) (c .buffer) r → Lines (r .state) cs ns s′ → Lines s (c ∷ cs) (r .number ∷ ns) s′
+-- [Two lists 1; 02 §1] the second list, with the numbers that its calls returned
+pub data Inputs : StoredState → List Input → List ℕ → StoredState → Type 0 where
+  none : (s : StoredState) → Inputs s [] [] s
+  then-line : (s s′ : StoredState) (l b : List ℕ) (r : Returned) (cs : List Input) (ns : List ℕ) →
+      LinePromise s l b r → Inputs (r .state) cs ns s′ → Inputs s (line l b ∷ cs) (r .number ∷ ns) s′
+  then-moved : (s s′ : StoredState) (p : Position) (r : ReturnedAlone) (cs : List Input) (ns : List ℕ) →
+      PositionPromise s p r → Inputs (r .state) cs ns s′ → Inputs s (moved p ∷ cs) (r .number ∷ ns) s′
 
 -- [demand 3] none of the lines that ask for KEN, RPA or DPA returned 0
-unfoldable pub steadyBy : List Line → List ℕ → Bool
+unfoldable pub steadyBy : List Input → List ℕ → Bool
 steadyBy [] ns = true
 steadyBy (c ∷ cs) [] = true
-steadyBy (c ∷ cs) (n ∷ ns) = not (eqb n 0 && asksToEnable (reading (c .bytes))) && steadyBy cs ns
+steadyBy (line l b ∷ cs) (n ∷ ns) = not (eqb n 0 && asksToEnable (reading l)) && steadyBy cs ns
+steadyBy (moved p ∷ cs) (n ∷ ns) = steadyBy cs ns
 
 -- ---- demand 3
 
@@ -104,8 +113,8 @@ pub record StoredAfterBoth (s s′ : StoredState) : Type 0 where
 -- [demand 3] of every stored state that the public calls can lead to
 abbrev pub StoredDemand3 : Type 0
 StoredDemand3 =
-    (start : Start) (first : List Call) (second : List Line) (numbers : List ℕ) (s₀ s s′ : StoredState) →
-    Begins start s₀ → Calls s₀ first s → Lines s second numbers s′ → steadyBy second numbers ≡ true → StoredAfterBoth s s′
+    (start : Start) (first : List Call) (second : List Input) (numbers : List ℕ) (s₀ s s′ : StoredState) →
+    Begins start s₀ → Calls s₀ first s → Inputs s second numbers s′ → steadyBy second numbers ≡ true → StoredAfterBoth s s′
 
 -- ---- the checklist
 

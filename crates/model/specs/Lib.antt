@@ -2,7 +2,8 @@
 -- [Memory 2] is the second paragraph of "Memory and state", [Poses] "Poses and chains", [A line], [Commands, KRM] the bullet that begins so,
 -- [lists] the paragraph "Lists run ..", [Error 9] the item, [Errors, end] the paragraph under the items, [Image], [Two lists 1], [ksrun],
 -- [Empty programs, end] the paragraph under that table. Examples has sessions for each of them. [02 §7], [02 §5], [02 §14], [02 §2], [02 §3], [02 §4],
--- [02 §9] and [02 §10] are requests of document 02, rendered by PowerSwitch, Arithmetic, Sheet, Use with Looking, Relative, LongBench, NextStart, and Tally with TallyClaims.
+-- [02 §9], [02 §10] and [02 §1] are requests of document 02, rendered by PowerSwitch, Arithmetic, Sheet, Use with Looking, Relative, LongBench, NextStart,
+-- Tally with TallyClaims, and Stage with StageClaims.
 -- [ksbench] is the program that the bench runs, in Reasons and Bench.
 pub mod Base
 pub mod Types
@@ -16,6 +17,7 @@ pub mod Memory
 pub mod Chain
 pub mod Use
 pub mod Words
+pub mod Stage
 pub mod WellFormed
 pub mod Recurrences
 pub mod Request
@@ -43,6 +45,7 @@ pub mod Relative
 pub mod LongBench
 pub mod NextStart
 pub mod TallyClaims
+pub mod StageClaims
 pub mod Reasons
 pub mod Bench
 pub mod Examples

@@ -13,10 +13,10 @@ use Rattle.model.specs.Use.{nameInUse, namesLookedAt, useTest}
 use Rattle.model.specs.Words.{reserved}
 use Rattle.model.specs.WellFormed.{memoryFine}
 use Rattle.model.specs.Machine.{Usage}
-use Rattle.model.specs.Trace.{Call, Line}
+use Rattle.model.specs.Trace.{Call, Input}
 use Rattle.model.specs.Demand.{Start, HeldPart, alone, pair, Frames, frames}
 use Rattle.model.specs.Checklist.{namesDown, underEnabled}
-use Rattle.model.specs.Histories.{UsePromise, Begins, Calls, Lines, steadyBy}
+use Rattle.model.specs.Histories.{UsePromise, Begins, Calls, Inputs, steadyBy}
 
 -- ---- whether the name is in use
 
@@ -84,6 +84,6 @@ pub record StopsWhenFound : Type 0 where
 -- [02 §2; demand 3] the question asked when the second list began and after it: the same answer, whatever name it is
 abbrev pub AskedAgain : Type 0
 AskedAgain =
-    (start : Start) (first : List Call) (second : List Line) (numbers : List ℕ) (s₀ s s′ : StoredState) →
-    Begins start s₀ → Calls s₀ first s → Lines s second numbers s′ → steadyBy second numbers ≡ true →
+    (start : Start) (first : List Call) (second : List Input) (numbers : List ℕ) (s₀ s s′ : StoredState) →
+    Begins start s₀ → Calls s₀ first s → Inputs s second numbers s′ → steadyBy second numbers ≡ true →
     (n : List ℕ) (r r′ : Usage) → UsePromise s n r → UsePromise s′ n r′ → r′ ≡ r

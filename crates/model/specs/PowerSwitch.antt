@@ -6,13 +6,13 @@ use mathlib.Core.Path.{_≡_}
 use Rattle.model.specs.Base.{ℕ, List, [], _∷_, _++_, Bool, true, false, cond, not, _&&_, eqb, length, take}
 use Rattle.model.specs.Types.{StoredState}
 use Rattle.model.specs.Limits.{bufferLimit}
-use Rattle.model.specs.Memory.{Memory, State, factory, started}
+use Rattle.model.specs.Memory.{Memory, State, factory, started, zeroPosition}
 use Rattle.model.specs.WellFormed.{wellFormed}
 use Rattle.model.specs.Request.{Query, reading, asks, list}
 use Rattle.model.specs.Image.{image}
-use Rattle.model.specs.Machine.{refused, answered, began, stepped, restart, writeImage}
-use Rattle.model.specs.Trace.{Call, line, restarting, called, afterCalls}
-use Rattle.model.specs.Demand.{Start, factory-start, image-start, startState}
+use Rattle.model.specs.Machine.{refused, answered, began, restart, writeImage}
+use Rattle.model.specs.Trace.{Call, entering, restarting, called, afterCalls}
+use Rattle.model.specs.Demand.{Start, factory-start, image-start, startState, taken}
 use Rattle.model.specs.Checklist.{asksToSave, ListsAlike, startFrom}
 use Rattle.model.specs.Stored.{memoryOf, stateOf, FineState, viewOf, holds, ofOutcome, ofBegun}
 use Rattle.model.specs.Histories.{Returned, ReturnedAlone, standsFor, standsAlone, LinePromise, RestartPromise, WritePromise, ImagePromise, Begins, Calls}
@@ -27,7 +27,7 @@ startMemory (image-start bytes m e) = m
 
 -- [02 §7] the call is a WPA, and it is accepted at its turn
 unfoldable pub saves : State → Call → Bool
-saves st (line bytes b) = eqb (stepped st bytes b .number) 0 && asksToSave (reading bytes)
+saves st (entering i) = taken asksToSave st i
 saves st restarting = false
 
 -- [02 §7] the walk: m, until an accepted WPA puts the volatile memory at its turn in m's place
@@ -70,14 +70,14 @@ pub record BringsBack (m : Memory) (st : State) : Type 0 where
   -- m is what it keeps
   pub permanent : st .permanent ≡ m
   -- a restart sent next is accepted and gives what a start with m gives, and every listing is as it was
-  pub restarts : restart st ≡ began (record { volatile = m; permanent = m; level = 0; error = 0 }) 0
+  pub restarts : restart st ≡ began (record { volatile = m; permanent = m; position = zeroPosition; level = 0; error = 0 }) 0
   pub lists : ListsAs m (restart st .state)
   -- the image that can be written here is m's, and a start from the bytes written is that restart
   pub short : (b : List ℕ) → length b < bufferLimit → writeImage st b ≡ refused st 2 b
   pub written : (b : List ℕ) → bufferLimit ≤ length b → writeImage st b ≡ answered st (image m) b
   pub starts : (b : List ℕ) → bufferLimit ≤ length b → startFrom (writeImage st b) ≡ restart st
 
--- [02 §7] after every start and every list of lines and restarts
+-- [02 §7; 02 §1] after every start and every list of lines, positions and restarts
 abbrev pub PowerSwitch : Type 0
 PowerSwitch = (start : Start) (calls : List Call) → BringsBack (lastSaved start calls) (afterCalls (startState start) calls)
 
@@ -87,6 +87,7 @@ PowerSwitch = (start : Start) (calls : List Call) → BringsBack (lastSaved star
 unfoldable pub savedBy : {s s′ : StoredState} {cs : List Call} → Memory → Calls s cs s′ → Memory
 savedBy m (stored.none s) = m
 savedBy m (stored.then-line s s′ l b r cs p rest) = savedBy (cond (eqb (r .number) 0 && asksToSave (reading l)) (memoryOf (s .volatile)) m) rest
+savedBy m (stored.then-moved s s′ p r cs q rest) = savedBy m rest
 savedBy m (stored.then-restart s s′ r cs p rest) = savedBy m rest
 
 -- [02 §7] a listing asked of s, and of any stored state that stands for a well-formed one with m as volatile memory

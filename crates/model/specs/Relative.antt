@@ -17,12 +17,12 @@ use Rattle.model.specs.Request.{reading, malformed, asks, list, resultan
 use Rattle.model.specs.Refusals.{unreadable, absent}
 use Rattle.model.specs.Reply.{poseLine, listed}
 use Rattle.model.specs.Machine.{stepped}
-use Rattle.model.specs.Trace.{Call, Line}
+use Rattle.model.specs.Trace.{Call, Input}
 use Rattle.model.specs.Arithmetic.{Alike, Named, Undoes}
 use Rattle.model.specs.Demand.{Start, Replies}
 use Rattle.model.specs.Checklist.{underEnabled}
 use Rattle.model.specs.Stored.{stateOf}
-use Rattle.model.specs.Histories.{Returned, LinePromise, Begins, Calls, Lines, steadyBy}
+use Rattle.model.specs.Histories.{Returned, LinePromise, Begins, Calls, Inputs, steadyBy}
 
 -- ---- systems by their names
 
@@ -116,8 +116,8 @@ StoredSeen =
 -- [02 §3; demand 3] between systems in use, the line sent when the second list began and after it: the same number, the same bytes
 abbrev pub SeenAgain : Type 0
 SeenAgain =
-    (start : Start) (first : List Call) (second : List Line) (numbers : List ℕ) (s₀ s s′ : StoredState) →
-    Begins start s₀ → Calls s₀ first s → Lines s second numbers s′ → steadyBy second numbers ≡ true →
+    (start : Start) (first : List Call) (second : List Input) (numbers : List ℕ) (s₀ s s′ : StoredState) →
+    Begins start s₀ → Calls s₀ first s → Inputs s second numbers s′ → steadyBy second numbers ≡ true →
     (line a b : List ℕ) → reading line ≡ asks (list (resultantIn a b)) →
     underEnabled (stateOf s .volatile) a ≡ true → underEnabled (stateOf s .volatile) b ≡ true →
     (buffer : List ℕ) (r r′ : Returned) → LinePromise s line buffer r → LinePromise s′ line buffer r′ →

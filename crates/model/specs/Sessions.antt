@@ -2,11 +2,12 @@
 -- machine's own step.
 use mathlib.Core.Path.{_≡_}
 use Prim.Native.String.{String}
-use Rattle.model.specs.Base.{ℕ, _+_, _*_, _-_, List, [], _∷_, _++_, map, Bool, true, false, cond, _&&_, Option, none, some, eqb, leb, take, replicate}
+use Rattle.model.specs.Base.{ℕ, ℤ, _+_, _*_, _-_, List, [], _∷_, _++_, map, Bool, true, false, cond, _&&_, Option, none, some, eqb, leb, take, replicate}
+use Rattle.model.specs.Types.{Position}
 use Rattle.model.specs.Ascii.{ascii}
 use Rattle.model.specs.Lists.{same, pieces, joined}
 use Rattle.model.specs.Memory.{State}
-use Rattle.model.specs.Machine.{Outcome, Begun, stepped, restart, writeImage, startFactory, startImage}
+use Rattle.model.specs.Machine.{Outcome, Begun, stepped, restart, writeImage, positioned, startFactory, startImage}
 
 -- ---- answers
 
@@ -67,6 +68,10 @@ run st (l ∷ ls) = run (sent st (ascii l) .state) ls
 unfoldable pub then : List String → String → Answer
 then before l = answer (sent (run startFactory before) (ascii l))
 
+-- the platform's position, in millionths
+abbrev pub at : ℤ → ℤ → ℤ → ℤ → ℤ → ℤ → Position
+at x y z u v w = record { offset = record { x = x; y = y; z = z }; angles = record { u = u; v = v; w = w } }
+
 -- ---- sessions
 
 infix 70 _⇒_
@@ -74,6 +79,7 @@ infix 70 _⇒_
 pub data Turn : Type 0 where
   _⇒_ : String → Answer → Turn  -- a line
   restarts : Turn  -- a restart, accepted
+  stands : Position → ℕ → Turn  -- the position is told, with this number
   writes : List ℕ → Turn  -- the image is written: these bytes
   starts : List ℕ → ℕ → Turn  -- a start from these bytes, with this number
 
@@ -91,6 +97,7 @@ begun o = record { state = o .state; answer = number (o .number) }
 unfoldable pub comes : State → Turn → Came
 comes st (l ⇒ a) = came (sent st (ascii l))
 comes st restarts = begun (restart st)
+comes st (stands p n) = begun (positioned st p)
 comes st (writes bytes) = came (writeImage st (lent 4096))
 comes st (starts bytes n) = begun (startImage bytes)
 
@@ -98,6 +105,7 @@ comes st (starts bytes n) = begun (startImage bytes)
 abbrev pub told : Turn → Answer
 told (l ⇒ a) = a
 told restarts = taken
+told (stands p n) = number n
 told (writes bytes) = gives bytes
 told (starts bytes n) = number n
 

@@ -1,12 +1,12 @@
 -- What a stored value stands for (document 01, "Empty programs": free is only what lies beyond the last user system or a name's last byte).
 use mathlib.Core.Path.{_≡_}
 use Rattle.model.specs.Base.{ℕ, List, map, Bool, true, false, _&&_, leb, take, replicate}
-use Rattle.model.specs.Types.{Name, StoredSystem, StoredMemory, StoredState}
+use Rattle.model.specs.Types.{Position, Name, StoredSystem, StoredMemory, StoredState}
 use Rattle.model.specs.Lists.{all}
 use Rattle.model.specs.Limits.{maxSystems, nameLimit}
 use Rattle.model.specs.Memory.{System, Memory, State}
 use Rattle.model.specs.WellFormed.{memoryFine, wellFormed}
-use Rattle.model.specs.Machine.{Outcome, Begun, Usage, stepped, restart, writeImage, refusesUse, askUse}
+use Rattle.model.specs.Machine.{Outcome, Begun, Usage, stepped, restart, writeImage, positioned, refusesUse, askUse}
 
 -- ---- values
 
@@ -28,7 +28,7 @@ abbrev pub memoryOf : StoredMemory → Memory
 memoryOf m = record { systems = systemsOf m; enabled = m .enabled }
 
 abbrev pub stateOf : StoredState → State
-stateOf s = record { volatile = memoryOf (s .volatile); permanent = memoryOf (s .permanent); level = s .level; error = s .error }
+stateOf s = record { volatile = memoryOf (s .volatile); permanent = memoryOf (s .permanent); position = s .position; level = s .level; error = s .error }
 
 -- ---- shape: the count and the lengths lie within their arrays
 
@@ -98,6 +98,11 @@ imageAnswer (holds st) b = ofOutcome (writeImage st b)
 unfoldable pub restartAnswer : View → Restarted
 restartAnswer (shapeless s) = record { state = shapeless s; number = 1 }
 restartAnswer (holds st) = ofBegun (restart st)
+
+-- [02 §1] the position is told
+unfoldable pub positionAnswer : View → Position → Restarted
+positionAnswer (shapeless s) p = record { state = shapeless s; number = 1 }
+positionAnswer (holds st) p = ofBegun (positioned st p)
 
 -- [02 §2] the question of use; it gives no state back
 unfoldable pub useAnswer : View → List ℕ → Usage

@@ -38,6 +38,7 @@ pub enum Kind {
     Ksw,
     Ksb,
     Kld,
+    Ksf,
 }
 
 pub enum Group {
@@ -80,10 +81,24 @@ pub struct Memory {
     pub enabled: Enabled,
 }
 
+// Angles about X, Y and Z, in millionths of a degree.
+pub struct Angles {
+    pub u: i64,
+    pub v: i64,
+    pub w: i64,
+}
+
+// Where the platform stands.
+pub struct Position {
+    pub offset: Vec3,
+    pub angles: Angles,
+}
+
 // The state as it is stored.
 pub struct State {
     pub volatile: Memory,
     pub permanent: Memory,
+    pub position: Position,
     pub level: u8,
     pub error: u8,
 }

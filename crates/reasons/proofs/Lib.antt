@@ -1,1 +1,2 @@
 pub mod Short  -- no reason is long
+pub mod Told  -- a number told by its value

@@ -9,7 +9,7 @@ use lib.ListN.{length, take, length-append}
 use Rattle.model.specs.Ascii.{ascii}
 use Rattle.model.specs.Limits.{bufferLimit}
 use Rattle.model.specs.Reply.{decimal}
-use Rattle.model.specs.Reasons.{reason, reasonLine}
+use Rattle.model.specs.Reasons.{laterReason, reason, reasonLine}
 use Rattle.model.proofs.Digits.{decimal-short}
 use Rattle.model.proofs.Upto.{at}
 use Rattle.print.specs.Over.{Wrote}
@@ -19,7 +19,7 @@ abbrev short : ℕ → Bool
 short n = leb (length (reason n)) 100
 
 pub reason-short : (n : ℕ) → n < 256 → length (reason n) ≤ 100
-unfolding reason
+unfolding laterReason reason
 reason-short n h = leb→le (length (reason n)) 100 (at 256 short tt n h)
 
 line-short : (n : ℕ) → n < 256 → length (reasonLine n) ≤ 106

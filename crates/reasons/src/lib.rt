@@ -2,14 +2,46 @@
 use print::put_byte;
 use print::put_decimal;
 use print::put_text;
-ghost use mathlib.Core.Path.{_≡_};
 ghost use Prim.Native.Nat.{_+_, _≤_};
 ghost use lib.ListN.{length};
 ghost use Rattle.model.specs.Limits.{bufferLimit};
-ghost use Rattle.model.specs.Reasons.{reason, reasonLine};
+ghost use Rattle.model.specs.Reasons.{laterReason, reason, reasonLine};
 ghost use Rattle.print.specs.Over.{Wrote};
 
-// The words alone. None of the texts has more than 100 bytes.
+// The words of the numbers from 10 on, and of one that has none of its own. No text here has more than 100 bytes.
+fn put_later(number: u8, out: &mut [u8], at: usize) -> usize
+    requires { ⌜ at + 100 ≤ length (now out) ⌝ }
+    ensures { λ r. ⌜ Wrote (laterReason number) (now (out .entry)) at (now (out .exit)) r ⌝ }
+{
+    match number {
+        10 => put_text(
+            out,
+            at,
+            b"wrong type: no link goes there, or a system named is of another type or group",
+        ),
+        11 => put_text(
+            out,
+            at,
+            b"in use: it is enabled, or an enabled system hangs on it",
+        ),
+        12 => put_text(out, at, b"ring: a system would hang on itself"),
+        13 => put_text(out, at, b"full: there are 16 systems already"),
+        14 => put_text(out, at, b"no image: no memory is saved as these bytes"),
+        15 => put_text(
+            out,
+            at,
+            b"turned: the platform's U, V and W are not all zero",
+        ),
+        20 => put_text(
+            out,
+            at,
+            b"needed: it was saved in use, and the next start has it so; WPA SKS once it is out of use frees it",
+        ),
+        _ => put_text(out, at, b"refused"),
+    }
+}
+
+// The words alone: up to 9 here, since the whole table is too long for one function.
 fn put_words(number: u8, out: &mut [u8], at: usize) -> usize
     requires { ⌜ at + 100 ≤ length (now out) ⌝ }
     ensures { λ r. ⌜ Wrote (reason number) (now (out .entry)) at (now (out .exit)) r ⌝ }
@@ -36,25 +68,7 @@ fn put_words(number: u8, out: &mut [u8], at: usize) -> usize
         7 => put_text(out, at, b"absent: there is no system of that name"),
         8 => put_text(out, at, b"reserved: the name is kept for a fixed system"),
         9 => put_text(out, at, b"locked: this needs level 1 (CCL 1 ADVANCED)"),
-        10 => put_text(
-            out,
-            at,
-            b"wrong type: no link goes there, or a system named is of another type or group",
-        ),
-        11 => put_text(
-            out,
-            at,
-            b"in use: it is enabled, or an enabled system hangs on it",
-        ),
-        12 => put_text(out, at, b"ring: a system would hang on itself"),
-        13 => put_text(out, at, b"full: there are 16 systems already"),
-        14 => put_text(out, at, b"no image: no memory is saved as these bytes"),
-        20 => put_text(
-            out,
-            at,
-            b"needed: it was saved in use, and the next start has it so; WPA SKS once it is out of use frees it",
-        ),
-        _ => put_text(out, at, b"refused"),
+        _ => put_later(number, out, at),
     }
 }
 

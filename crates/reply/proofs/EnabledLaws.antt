@@ -1,6 +1,7 @@
 -- KEN? by its parts.
 use Prim.Native.Nat.{ℕ, _+_, _-_, _≤_, _<_}
 use mathlib.Core.Path.{_≡_, refl, sym}
+use mathlib.Core.Logic.{⊎-elim}
 use mathlib.Core.Bool.{true, false, false≢true}
 use mathlib.Core.List.{List, [], _∷_, _++_, map, append-assoc, append-nil}
 use native.Mathlib.Omega.{arith}
@@ -8,6 +9,7 @@ use native.Mathlib.Decide.{decLt}
 use lib.ListN.{length, getD, length-append}
 use Rattle.model.specs.Lists.{joined}
 use Rattle.model.specs.Memory.{System, Ref}
+use Rattle.model.specs.Stage.{operatingPlace}
 use Rattle.model.specs.Stored.{systemOf, systemsOf, memoryOf, FineMemory}
 use Rattle.model.specs.Use.{operatingPlaces, inGroup, enabledRefs}
 use Rattle.model.specs.Request.{enabledOnes}
@@ -18,7 +20,7 @@ use Rattle.model.proofs.Shape.{systemsOf-count}
 use Rattle.model.specs.Effects.{toolHalf}
 use Rattle.reply.specs.Types.{Kind, Operating, Orientational, Levelling, Enabled, OperatingPart, Single, Pair, StoredMemory}
 use Rattle.reply.specs.Lines.{further, enabledText}
-use Rattle.reply.specs.EnabledText.{firstPlace, pair?, toolText, groupsText}
+use Rattle.reply.specs.EnabledText.{pair?, toolText, groupsText}
 use Rattle.reply.proofs.TurnLaws.{enabled-turn}
 
 -- ---- the parts
@@ -47,12 +49,12 @@ four a t o v = simp (append-assoc, append-nil)
 
 -- over any line and texts that it equals
 parts : (line : Ref → List ℕ) (e : Enabled) (part : OperatingPart) (a b o v : System)
-    → line (inGroup Operating (firstPlace part)) ≡ enabledText Operating (firstPlace part) a
+    → line (inGroup Operating (operatingPlace part)) ≡ enabledText Operating (operatingPlace part) a
     → line (inGroup Operating (toolHalf part)) ≡ enabledText Operating (toolHalf part) b
     → line (inGroup Orientational (e .orientational)) ≡ enabledText Orientational (e .orientational) o
     → line (inGroup Levelling (e .levelling)) ≡ enabledText Levelling (e .levelling) v
     → listing (map line (map (inGroup Operating) (operatingPlaces part) ++ (inGroup Orientational (e .orientational) ∷ inGroup Levelling (e .levelling) ∷ [])))
-    ≡ enabledText Operating (firstPlace part) a ++ (toolText part b ++ groupsText e o v)
+    ≡ enabledText Operating (operatingPlace part) a ++ (toolText part b ++ groupsText e o v)
 unfolding listing joined toolText groupsText
 parts line e (Single p) a b o v ea eb eo ev = rw (ea, eo, ev) (three (enabledText Operating p a) (enabledText Orientational (e .orientational) o) (enabledText Levelling (e .levelling) v))
 parts line e (Pair w t) a b o v ea eb eo ev =
@@ -68,11 +70,11 @@ module _ (m : StoredMemory) (ready : FineMemory m) (long : length (m .systems) �
       go (yes h) = omega (arith, f h .0, systemsOf-count m (ready .shape) long)
       go (no h) = omega arith
 
-  pub first-within : firstPlace (m .enabled .operating) ≤ m .count
+  pub first-within : operatingPlace (m .enabled .operating) ≤ m .count
   first-within = go (m .enabled .operating) (fine-of (memoryOf m) (ready .formed) .enabled .operating)
     where
-      go : (part : OperatingPart) → PartPlaced (systemsOf m) part → firstPlace part ≤ m .count
-      go (Single p) f = placed-within _ p f
+      go : (part : OperatingPart) → PartPlaced (systemsOf m) part → operatingPlace part ≤ m .count
+      go (Single p) f = ⊎-elim (placed-within _ p) (placed-within _ p) f
       go (Pair w t) f = placed-within _ w (f .0)
 
   pub tool-within : toolHalf (m .enabled .operating) ≤ m .count
@@ -93,7 +95,7 @@ module _ (m : StoredMemory) (ready : FineMemory m) (long : length (m .systems) �
 
   pub enabled-whole : let e = m .enabled in let part = e .operating in
       listed (memoryOf m) enabledOnes
-      ≡ enabledText Operating (firstPlace part) (storedAt (firstPlace part)) ++ (toolText part (storedAt (toolHalf part)) ++ groupsText e (storedAt (e .orientational)) (storedAt (e .levelling)))
+      ≡ enabledText Operating (operatingPlace part) (storedAt (operatingPlace part)) ++ (toolText part (storedAt (toolHalf part)) ++ groupsText e (storedAt (e .orientational)) (storedAt (e .levelling)))
   unfolding listed enabledRefs
   enabled-whole =
       let e = m .enabled in

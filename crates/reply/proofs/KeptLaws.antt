@@ -4,8 +4,7 @@ use mathlib.Core.Path.{_≡_, refl, ap, _∙_}
 use mathlib.Core.List.{List, _∷_}
 use native.Mathlib.Omega.{arith}
 use native.Mathlib.Decide.{decLt}
-use lib.IntN.{ℤ}
-use lib.ListN.{length, take, getD, set, length-set, length-take}
+use lib.ListN.{length, getD, set, length-set}
 use lib.Seq.{getD-set-same, getD-set-other}
 use Rattle.model.specs.declared.Dir.the-variants.{Px}
 use Rattle.model.specs.Pose.{origin}
@@ -13,9 +12,6 @@ use Rattle.model.specs.Memory.{System}
 use Rattle.chains.specs.declared.frames.Reached.{Reached}
 use Rattle.chains.specs.Walk.{walkOf, walked, atFixed}
 use Rattle.chains.proofs.Reaching.{walked-fixed}
-use Rattle.model.proofs.Shape.{shaped-count}
-use Rattle.reply.specs.Types.{StoredMemory}
-use Rattle.reply.proofs.ReachLaws.{FlatOf}
 
 -- only to fill a place where a list has none
 abbrev pub nowhere : Reached
@@ -41,15 +37,3 @@ kept-on {l} {known} {i} {r} k b e = record { room = length-set known (i + 1) r �
         let z : j ≡ i + 1 = omega arith in
         rw z (ap walkOf (getD-set-same known (i + 1) r nowhere (omega (arith, k .room))) ∙ e)
     go j h (no y) = ap walkOf (getD-set-other known (i + 1) j r nowhere (λ z. omega arith)) ∙ k .each j (omega arith)
-
--- ---- the numbers laid flat
-
-module _ {m : StoredMemory} {preds : List ℕ} {offsets : List ℤ} {turns : List ℕ} (flat : FlatOf m preds offsets turns) where
-  abbrev ps : List ℕ
-  ps = take (m .count) preds
-
-  pub held : m .count ≤ 16
-  held = shaped-count m (flat .good .shape)
-
-  pub taken : m .count ≡ length ps
-  taken = omega (arith, held, flat .many, length-take (m .count) preds)

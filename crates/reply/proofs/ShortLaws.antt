@@ -28,7 +28,7 @@ use Rattle.chains.proofs.Reaching.{few-steps, resultant-far, seen-far}
 use Rattle.chains.proofs.Ready.{walkable}
 use Rattle.model.proofs.Digits.{decimal-short}
 use Rattle.print.proofs.Laws.{value-short}
-use Rattle.reply.specs.Types.{Vec3, Turns, Kind, Ksd, Kst, Ksw, Ksb, Kld, Group, Operating, Orientational, Levelling, Enabled, OperatingPart, Single, Pair}
+use Rattle.reply.specs.Types.{Vec3, Turns, Kind, Ksd, Kst, Ksw, Ksb, Kld, Ksf, Group, Operating, Orientational, Levelling, Enabled, OperatingPart, Single, Pair}
 use Rattle.reply.specs.Lines.{furtherLines}
 use Rattle.reply.specs.Fits.{RepliesFit}
 use Rattle.reply.proofs.ValueLaws.{length-offsets, length-turns, length-six}
@@ -69,6 +69,7 @@ kind-short Kst = omega arith
 kind-short Ksw = omega arith
 kind-short Ksb = omega arith
 kind-short Kld = omega arith
+kind-short Ksf = omega arith
 
 group-short : (g : Group) → (length (ofGroup g .name) ≤ 16) × (length (ofGroup g .shown) ≤ 9) × (length (ofGroup g .end) ≤ 7)
 group-short Operating = (omega arith, omega arith, omega arith)

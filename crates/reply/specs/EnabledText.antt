@@ -7,11 +7,6 @@ use Rattle.model.specs.Memory.{System}
 use Rattle.reply.specs.Types.{Operating, Orientational, Levelling, Enabled, OperatingPart, Single, Pair, StoredSystem}
 use Rattle.reply.specs.Lines.{further, enabledText}
 
--- the one operating place, or the work half's
-abbrev pub firstPlace : OperatingPart → ℕ
-firstPlace (Single p) = p
-firstPlace (Pair w t) = w
-
 abbrev pub pair? : OperatingPart → Bool
 pair? (Single p) = false
 pair? (Pair w t) = true

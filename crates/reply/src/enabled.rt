@@ -2,6 +2,7 @@
 use crate::line::put_enabled;
 use crate::line::put_further_enabled;
 use crate::slot;
+use facts::halves::operating_place;
 use facts::halves::tool_half;
 use model::Enabled;
 use model::Group;
@@ -19,17 +20,7 @@ ghost use Rattle.model.specs.Request.{enabledOnes};
 ghost use Rattle.model.specs.Reply.{listed};
 ghost use Rattle.print.specs.Over.{Wrote};
 ghost use Rattle.reply.specs.Lines.{Replied, further, enabledText};
-ghost use Rattle.reply.specs.EnabledText.{firstPlace, pair?, toolText, groupsText, GroupsFit};
-
-// The one operating place, or the work half's.
-fn first_place(part: OperatingPart) -> u8
-    ensures { λ r. ⌜ r ≡ firstPlace part ⌝ }
-{
-    match part {
-        OperatingPart::Single(p) => p,
-        OperatingPart::Pair(work, _) => work,
-    }
-}
+ghost use Rattle.reply.specs.EnabledText.{pair?, toolText, groupsText, GroupsFit};
 
 fn is_pair(part: OperatingPart) -> bool
     ensures { λ r. ⌜ r ≡ pair? part ⌝ }
@@ -78,7 +69,7 @@ pub fn enabled(m: Memory, reply: &mut [u8]) -> usize
 {
     let e = m.enabled;
     let part = e.operating;
-    let place = first_place(part);
+    let place = operating_place(part);
     let first = slot(place);
     let tool = slot(tool_half(part));
     let third = slot(e.orientational);

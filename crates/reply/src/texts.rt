@@ -28,6 +28,7 @@ pub fn put_kind(out: &mut [u8], at: usize, k: Kind) -> usize
         Kind::Ksw => put_text(out, at, b"KSW"),
         Kind::Ksb => put_text(out, at, b"KSB(USER)"),
         Kind::Kld => put_text(out, at, b"KLD(USER)"),
+        Kind::Ksf => put_text(out, at, b"KSF"),
     }
 }
 

@@ -12,7 +12,7 @@ use Rattle.model.proofs.Basics.{none-some}
 use Rattle.text.specs.Readings.{readingTold}
 use Rattle.request.specs.Asked.{askedTold, SameNumber}
 use Rattle.request.specs.declared.Asked.{Asked}
-use Rattle.request.specs.declared.Asked.the-variants.{Unknown, Malformed, Beyond, Define, Link, Copy, Remove, Enable, SetLevel, Save, Restore, Reset, ListEnabled, ListSystems, ListLinks, ListResultants, ListResultant, ListRelative, LastError}
+use Rattle.request.specs.declared.Asked.the-variants.{Unknown, Malformed, Beyond, Define, Locate, Link, Copy, Remove, Enable, SetLevel, Save, Restore, Reset, ListEnabled, ListSystems, ListLinks, ListResultants, ListResultant, ListRelative, LastError}
 
 module _ (st : State) (a b : List ℕ) (t : Vec3) (u : Turns) where
   asked-number : (q : Asked) → askedTold q a b t u .value ≡ none → first (readingLadder st (readingTold asks (askedTold q a b t u))) ≡ askedTold q a b t u .number
@@ -21,6 +21,7 @@ module _ (st : State) (a b : List ℕ) (t : Vec3) (u : Turns) where
   asked-number Malformed e = refl
   asked-number Beyond e = refl
   asked-number (Define k) e = none-some (sym e)
+  asked-number Locate e = none-some (sym e)
   asked-number Link e = none-some (sym e)
   asked-number Copy e = none-some (sym e)
   asked-number Remove e = none-some (sym e)

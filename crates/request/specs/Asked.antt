@@ -15,7 +15,7 @@ use Rattle.model.specs.Request as model
 use Rattle.model.specs.Told.{Told, tells, refuses}
 use Rattle.text.specs.Readings.{readingTold}
 use Rattle.request.specs.declared.Asked.{Asked}
-use Rattle.request.specs.declared.Asked.the-variants.{Unknown, Malformed, Beyond, Define, Link, Copy, Remove, Enable, SetLevel, Save, Restore, Reset, ListEnabled, ListSystems, ListLinks, ListResultants, ListResultant, ListRelative, LastError}
+use Rattle.request.specs.declared.Asked.the-variants.{Unknown, Malformed, Beyond, Define, Locate, Link, Copy, Remove, Enable, SetLevel, Save, Restore, Reset, ListEnabled, ListSystems, ListLinks, ListResultants, ListResultant, ListRelative, LastError}
 use Rattle.request.specs.declared.Request.{Request}
 
 -- [Commands; Errors 4 to 6] each case, with the names and values beside it
@@ -24,6 +24,7 @@ askedTold Unknown a b t u = refuses 4
 askedTold Malformed a b t u = refuses 5
 askedTold Beyond a b t u = refuses 6
 askedTold (Define k) a b t u = tells (model.change (model.define k a t u))
+askedTold Locate a b t u = tells (model.change (model.locate a))
 askedTold Link a b t u = tells (model.change (model.link a b))
 askedTold Copy a b t u = tells (model.change (model.copy a b))
 askedTold Remove a b t u = tells (model.change (model.remove a))

@@ -110,6 +110,9 @@ fn definition(line: &[u8], w: Word) -> Form
     if is_word(line, w, b"KLD") {
         return Form::Definition(Kind::Kld);
     }
+    if is_word(line, w, b"KSF") {
+        return Form::OneName(Asked::Locate);
+    }
     edit(line, w)
 }
 

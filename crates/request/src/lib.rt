@@ -19,6 +19,8 @@ pub enum Asked {
     Malformed,
     Beyond,
     Define(Kind),
+    // KSF: no pose is typed, since the stage's own is taken
+    Locate,
     Link,
     Copy,
     Remove,

@@ -1,6 +1,6 @@
 pub mod HexLaws
 pub mod FieldLaws
-pub mod LengthLaws
+pub mod NumberLaws
 pub mod OrderLaws
 pub mod AnswerLaws
 pub mod ObeyLaws

@@ -1,23 +1,23 @@
 -- What a line of a script orders.
-use Prim.Native.Nat.{ℕ, zero, suc, _-_, _≤_}
+use Prim.Native.Nat.{ℕ, _≤_}
 use mathlib.Core.Path.{_≡_}
 use mathlib.Core.List.{List, [], _∷_}
-use mathlib.Core.Bool.{cond, _&&_, _||_}
+use mathlib.Core.Bool.{cond, _||_}
 use mathlib.Core.Option.{Option, none, some}
-use lib.Dec.{leb}
-use lib.ListN.{length, take, drop}
+use lib.Dec.{eqb, leb}
+use lib.IntN.{ℤ, pos}
+use lib.ListN.{length, getD, take}
 use Rattle.model.specs.Ascii.{ascii}
-use Rattle.model.specs.Lists.{all, none?, same}
-use Rattle.model.specs.Words.{digit, spelled}
+use Rattle.model.specs.Lists.{same}
+use Rattle.model.specs.declared.Position.{Position}
+use Rattle.model.specs.Sessions.{at}
 use Rattle.print.specs.Over.{over}
-use Rattle.text.specs.Cursor.{blanks, run}
-use Rattle.text.specs.declared.words.Word.{Word}
+use Rattle.script.specs.Fields.{fields}
 use Rattle.script.specs.Hex.{unhexed, pairsRead}
+use Rattle.script.specs.Numbers.{wholeOf, numbersOf}
 use Rattle.script.specs.declared.hex.Decoded.{Decoded}
-use Rattle.script.specs.declared.parse.Length.{Length}
-use Rattle.script.specs.declared.parse.Length.the-variants.{Bytes, Wrong}
 use Rattle.script.specs.declared.parse.Directive.{Directive}
-use Rattle.script.specs.declared.parse.Directive.the-variants.{Line, Restart, Write, Image, Factory, Use, Malformed}
+use Rattle.script.specs.declared.parse.Directive.the-variants.{Line, Restart, Write, Image, Factory, Use, Position as Stands, Malformed}
 
 -- ---- limits
 
@@ -29,39 +29,11 @@ longestLine = 262144
 abbrev pub longestLent : ℕ
 longestLent = 65536
 
--- ---- fields: runs of bytes other than space
-
-abbrev pub ahead : List ℕ → List ℕ
-ahead text = drop (blanks text) text
-
--- the first field, and what stands behind it
-abbrev pub field : List ℕ → List ℕ
-field text = take (run (ahead text)) (ahead text)
-
-abbrev pub behind : List ℕ → List ℕ
-behind text = drop (run (ahead text)) (ahead text)
-
--- the first fields, up to n of them
-unfoldable pub fieldsUpTo : ℕ → List ℕ → List (List ℕ)
-fieldsUpTo zero text = []
-fieldsUpTo (suc n) text = cond (none? (field text)) [] (field text ∷ fieldsUpTo n (behind text))
-
--- no directive has more than three, so that four tell all
-abbrev pub fields : List ℕ → List (List ℕ)
-fields text = fieldsUpTo 4 text
-
--- the bytes of a word that the cursor found
-abbrev pub bytesAt : List ℕ → Word → List ℕ
-bytesAt text w = take (w .end - w .start) (drop (w .start) text)
-
 -- ---- values
 
--- the length of a buffer that can be lent, after digits that spell a
-abbrev pub lengthFrom : ℕ → List ℕ → Option ℕ
-lengthFrom a w = cond (all digit w && leb (spelled a w) longestLent) (some (spelled a w)) none
-
-unfoldable pub lengthOf : List ℕ → Option ℕ
-lengthOf w = lengthFrom 0 w
+-- the length of a buffer that can be lent
+abbrev pub lengthOf : List ℕ → Option ℕ
+lengthOf w = wholeOf longestLent w
 
 -- bytes; a hyphen is none of them
 unfoldable pub bytesOf : List ℕ → Option (List ℕ)
@@ -76,6 +48,7 @@ pub data Order : Type 0 where
   start : List ℕ → Order
   factory : Order
   question : List ℕ → Order
+  position : Position → Order
   unclear : Order
 
 abbrev pub lineOrder : Option (List ℕ) → Option ℕ → Order
@@ -95,6 +68,15 @@ abbrev pub useOrder : Option (List ℕ) → Order
 useOrder none = unclear
 useOrder (some name) = question name
 
+-- [02 §1] X Y Z of the offset, U V W of the angles
+abbrev pub positionAt : List ℤ → Position
+positionAt zs = let n : ℕ → ℤ = λ i. getD zs i (pos 0) in at (n 0) (n 1) (n 2) (n 3) (n 4) (n 5)
+
+-- [02 §1] six numbers, no fewer and no more
+unfoldable pub positionOrder : Option (List ℤ) → Order
+positionOrder none = unclear
+positionOrder (some zs) = cond (eqb (length zs) 6) (position (positionAt zs)) unclear
+
 unfoldable pub oneField : List ℕ → Order
 oneField w = cond (same w (ascii "R")) restart (cond (same w (ascii "N")) factory unclear)
 
@@ -106,12 +88,17 @@ twoFields w v =
 unfoldable pub threeFields : List ℕ → List ℕ → List ℕ → Order
 threeFields w h n = cond (same w (ascii "L")) (lineOrder (bytesOf h) (lengthOf n)) unclear
 
+-- up to three fields: the first one, and those behind it
+unfoldable pub fewFields : List ℕ → List (List ℕ) → Order
+fewFields w [] = oneField w
+fewFields w (v ∷ []) = twoFields w v
+fewFields w (h ∷ n ∷ []) = threeFields w h n
+fewFields w (h ∷ n ∷ z ∷ zs) = unclear
+
+-- the first field says what the others are: behind P numbers, behind any other letter as many fields as it has
 unfoldable pub understood : List (List ℕ) → Order
 understood [] = unclear
-understood (w ∷ []) = oneField w
-understood (w ∷ v ∷ []) = twoFields w v
-understood (w ∷ h ∷ n ∷ []) = threeFields w h n
-understood (w ∷ h ∷ n ∷ z ∷ zs) = unclear
+understood (w ∷ ws) = cond (same w (ascii "P")) (positionOrder (numbersOf ws)) (fewFields w ws)
 
 unfoldable pub order : List ℕ → Order
 order text = cond (leb (length text) longestLine) (understood (fields text)) unclear
@@ -119,11 +106,6 @@ order text = cond (leb (length text) longestLine) (understood (fields text)) unc
 -- ---- the answers of the code
 -- Directives are the shared vectors' and not document 01's: a malformed one has none of its numbers and is answered by its line (`complaint` in Answer.antt).
 -- So each case is said to be a value or none, and at last an order, of which `unclear` is the refusal.
-
--- a length, or none
-abbrev pub lengthTold : Length → Option ℕ
-lengthTold (Bytes n) = some n
-lengthTold Wrong = none
 
 -- an order for each case; the bytes of a directive stand first in the buffer
 abbrev pub orderOf : Directive → List ℕ → Order
@@ -133,6 +115,7 @@ orderOf (Write n) b = write n
 orderOf (Image k) b = start (take k b)
 orderOf Factory b = factory
 orderOf (Use k) b = question (take k b)
+orderOf (Stands p) b = position p
 orderOf Malformed b = unclear
 
 -- bytes, or none: a field was read into a lent buffer
@@ -160,6 +143,7 @@ Bounded (Write n) b = n ≤ longestLent
 Bounded (Image k) b = k ≤ length b
 Bounded Factory b = Unit {0}
 Bounded (Use k) b = k ≤ length b
+Bounded (Stands p) b = Unit {0}
 Bounded Malformed b = Unit {0}
 
 -- an order was understood, and the field h decoded into a lent buffer

@@ -1,4 +1,6 @@
+pub mod Fields
 pub mod Hex
+pub mod Numbers
 pub mod Directive
 pub mod Answer
 pub mod Obey

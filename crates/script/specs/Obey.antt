@@ -5,11 +5,11 @@ use mathlib.Core.List.{List, []}
 use mathlib.Core.Option.{Option, none, some}
 use lib.ListN.{length, take, replicate}
 use Rattle.model.specs.Machine.{Usage, startFactory, startImage, began}
-use Rattle.model.specs.Stored.{View, viewOf, Answered, Restarted, ofBegun, lineAnswer, imageAnswer, restartAnswer, useAnswer}
+use Rattle.model.specs.Stored.{View, viewOf, Answered, Restarted, ofBegun, lineAnswer, imageAnswer, restartAnswer, positionAnswer, useAnswer}
 use Rattle.print.specs.Over.{Wrote}
 use Rattle.script.specs.declared.obey.Obeyed.{Obeyed}
 use Rattle.script.specs.Hex.{hexed}
-use Rattle.script.specs.Directive.{Order, line, restart, write, start, factory, question, unclear, order}
+use Rattle.script.specs.Directive.{Order, line, restart, write, start, factory, question, position, unclear, order}
 use Rattle.script.specs.Answer.{said, usageText, complaint}
 
 -- what a call gives: the next state, its number, and what is shown of it
@@ -40,6 +40,7 @@ done v (write n) = some (lent (imageAnswer v (blank n)))
 done v (start image) = some (alone (ofBegun (startImage image)))
 done v factory = some (alone (ofBegun (began startFactory 0)))
 done v (question name) = some (asking v (useAnswer v name))
+done v (position p) = some (alone (positionAnswer v p))
 done v unclear = none
 
 -- what is no directive changes nothing

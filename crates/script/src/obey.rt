@@ -110,6 +110,7 @@ pub fn obey(
             )
         }
         Directive::Use(count) => obey_use(s, &bytes[..count], out, at),
+        Directive::Position(p) => say_begun(machine::set_position(s, p), out, at),
         Directive::Malformed => {
             let end = put_complaint(out, at, line);
             Obeyed { state: s, end }

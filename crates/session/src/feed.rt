@@ -82,7 +82,7 @@ fn answer_line(k: Manner, s: State, t: Tally, line: &[u8], out: &mut [u8]) -> An
     ensures { λ r. ⌜ Answers k s t (now (line .entry)) (now (out .entry)) (now (out .exit)) r ⌝ }
 {
     let m = s.volatile;
-    let step = decide(m, s.level, s.error, line, out);
+    let step = decide(m, s.position, s.level, s.error, line, out);
     let decision = step.decision;
     let number = settled(s.permanent, decision);
     let written = say(number, step.length, out);

@@ -14,6 +14,7 @@ use memory::edit::put_at;
 use memory::edit::removed_at;
 use memory::factory::factory_memory;
 use model::Memory;
+use model::Position;
 use model::State;
 use print::put_byte;
 use print::put_decimal;
@@ -65,6 +66,7 @@ pub fn say(number: u8, count: usize, out: &mut [u8]) -> usize
 fn left_with(
     volatile: Memory,
     permanent: Memory,
+    position: Position,
     level: u8,
     error: u8,
     tally: Tally,
@@ -73,7 +75,7 @@ fn left_with(
     due: Due,
 ) -> Ran
     ensures { λ r. ⌜ r ≡ record {
-      state = record { volatile = volatile; permanent = permanent; level = level; error = error };
+      state = record { volatile = volatile; permanent = permanent; position = position; level = level; error = error };
       tally = tally;
       used = used;
       written = written;
@@ -83,6 +85,7 @@ fn left_with(
     let state = State {
         volatile,
         permanent,
+        position,
         level,
         error,
     };
@@ -104,6 +107,7 @@ pub fn run_lines(k: Manner, s: State, t: Tally, block: &[u8], out: &mut [u8]) ->
 {
     let mut volatile = s.volatile;
     let mut permanent = s.permanent;
+    let position = s.position;
     let mut level = s.level;
     let mut error = s.error;
     let mut counts = t.counts;
@@ -117,7 +121,7 @@ pub fn run_lines(k: Manner, s: State, t: Tally, block: &[u8], out: &mut [u8]) ->
             break;
         }
         let line = &block[used..end];
-        let step = decide(volatile, level, error, line, &mut out[written..]);
+        let step = decide(volatile, position, level, error, line, &mut out[written..]);
         let decision = step.decision;
         let number = settled(permanent, decision);
         total = count_in(&mut counts, total, number);
@@ -144,5 +148,15 @@ pub fn run_lines(k: Manner, s: State, t: Tally, block: &[u8], out: &mut [u8]) ->
         }
     }
     let tally = Tally { counts, total };
-    left_with(volatile, permanent, level, error, tally, used, written, due)
+    left_with(
+        volatile,
+        permanent,
+        position,
+        level,
+        error,
+        tally,
+        used,
+        written,
+        due,
+    )
 }

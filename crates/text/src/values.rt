@@ -3,12 +3,13 @@ use facts::limits::MOST_TURNS;
 use facts::limits::OFFSET_LIMIT;
 use facts::limits::QUARTER_TURN;
 use facts::limits::WHOLE_TURN;
+use model::Vec3;
 use signed::magnitude;
 use signed::negated;
 ghost use mathlib.Core.Path.{_≡_};
 ghost use mathlib.Core.Bool.{true};
 ghost use Prim.Native.Nat.{_<_, _^_};
-ghost use Rattle.model.specs.Words.{offset?, angle?, quarters};
+ghost use Rattle.model.specs.Words.{offset?, offsetsFine, angle?, quarters};
 ghost use Rattle.text.specs.Values.{withSign};
 
 pub(crate) fn signed(minus: bool, v: u64) -> i64
@@ -26,6 +27,13 @@ pub fn offset_fine(z: i64) -> bool
     ensures { λ r. ⌜ r ≡ offset? z ⌝ }
 {
     magnitude(z) <= OFFSET_LIMIT
+}
+
+// X, Y and Z, of a system or of the platform.
+pub fn offsets_fine(t: Vec3) -> bool
+    ensures { λ r. ⌜ r ≡ offsetsFine t ⌝ }
+{
+    offset_fine(t.x) & offset_fine(t.y) & offset_fine(t.z)
 }
 
 pub fn angle_fine(z: i64) -> bool

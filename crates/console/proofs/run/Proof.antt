@@ -1,4 +1,5 @@
 -- `run`: the buffers keep their lengths, the session goes from block to block, and the turns fall.
+use Prim.Native.Nat.{_<_}
 use mathlib.Core.Path.{_≡_}
 use native.Mathlib.Omega.{arith}
 use borrow.Author.Needs.{needs}
@@ -25,6 +26,10 @@ serve-requires : tie.Need-serve-requires Inv-loop μ-loop
 serve-requires c κs =
     let l = c .before .before .before .before .before .before .before .before .before .before .loop in
     (l .inv .2, omega (arith, l .inv .1))
+
+-- a turn is left while the loop is in it. (The search does not reach its test from behind the new session.)
+turns-left : (c : tie.After-serve Inv-loop μ-loop) → 0 < c .before .before .before .before .before .before .before .before .before .before .before .loop .turns
+turns-left c = c .before .before .before .before .before .before .before .before .before .before .loop-test .taken
 
 loop-again : tie.Need-loop-again Inv-loop μ-loop
 loop-again c = (search needs, search needs, c .before .before .before .before .serve .ensures .between)
@@ -55,8 +60,8 @@ run-spec =
     serve-requires
     (λ c κs. search needs)
     (λ c. search needs)
-    (λ c. search needs)
-    (λ c. search needs)
+    (λ c. turns-left (c .before .before .before .before))
+    (λ c. omega (arith, turns-left (c .before .before .before .before)))
     loop-again
     (λ c. search needs)
     end-requires

@@ -7,7 +7,7 @@ use mathlib.Core.Logic.{⊎-elim}
 use native.Mathlib.Omega.{arith}
 use native.Mathlib.Decide.{decLt}
 use lib.ListN.{length, length-map, length-append}
-use Rattle.model.specs.Types.{Kind, Ksd, Kst, Ksw, Ksb, Kld, Group, Operating, Orientational, Levelling, OperatingPart, Single, Pair}
+use Rattle.model.specs.Types.{Kind, Ksd, Kst, Ksw, Ksb, Kld, Ksf, Group, Operating, Orientational, Levelling, OperatingPart, Single, Pair}
 use Rattle.model.specs.Lists.{kept}
 use Rattle.model.specs.Limits.{maxSystems}
 use Rattle.model.specs.Kinds.{sameKind}
@@ -46,25 +46,26 @@ module _ (l : List System) where
   ofType : Kind → ℕ
   ofType k = among k (up-to (length l))
 
-  -- a system is of one type, so that those of the five types are no more than there are
-  one-type : (j : Kind) → one (sameKind j Ksd) + one (sameKind j Kst) + one (sameKind j Ksw) + one (sameKind j Ksb) + one (sameKind j Kld) ≡ 1
+  -- a system is of one type, so that those of the six types are no more than there are
+  one-type : (j : Kind) → one (sameKind j Ksd) + one (sameKind j Kst) + one (sameKind j Ksw) + one (sameKind j Ksb) + one (sameKind j Kld) + one (sameKind j Ksf) ≡ 1
   unfolding one
   one-type Ksd = refl
   one-type Kst = refl
   one-type Ksw = refl
   one-type Ksb = refl
   one-type Kld = refl
+  one-type Ksf = refl
 
-  five : (ps : List ℕ) → among Ksd ps + among Kst ps + among Ksw ps + among Ksb ps + among Kld ps ≡ length ps
+  six : (ps : List ℕ) → among Ksd ps + among Kst ps + among Ksw ps + among Ksb ps + among Kld ps + among Ksf ps ≡ length ps
   unfolding among isOf kept
-  five [] = refl
-  five (x ∷ ps) =
+  six [] = refl
+  six (x ∷ ps) =
       let j = systemAt l x .kind in
-      omega (arith, five ps, one-type j, kept-one (isOf Ksd) x ps, kept-one (isOf Kst) x ps, kept-one (isOf Ksw) x ps, kept-one (isOf Ksb) x ps, kept-one (isOf Kld) x ps)
+      omega (arith, six ps, one-type j, kept-one (isOf Ksd) x ps, kept-one (isOf Kst) x ps, kept-one (isOf Ksw) x ps, kept-one (isOf Ksb) x ps, kept-one (isOf Kld) x ps, kept-one (isOf Ksf) x ps)
 
-  all-types : ofType Ksd + ofType Kst + ofType Ksw + ofType Ksb + ofType Kld ≡ length l
+  all-types : ofType Ksd + ofType Kst + ofType Ksw + ofType Ksb + ofType Kld + ofType Ksf ≡ length l
   unfolding ofType
-  all-types = five (up-to (length l)) ∙ up-to-length (length l)
+  all-types = six (up-to (length l)) ∙ up-to-length (length l)
 
 -- ---- the length of a chain
 
@@ -116,7 +117,12 @@ module _ (m : Memory) (fine : Fine m) where
           )
 
       go : (o : OperatingPart) → PartPlaced l o → length (lookedWith l b v o) ≤ maxSystems + 4
-      go (Single p) h = omega (arith, length-append (downFrom l (inGroup Operating p)) (lastTwo l b v), few-down Ksd Operating p h, last, all-types l, fine .systems .few)
+      go (Single p) h =
+          let parts = length-append (downFrom l (inGroup Operating p)) (lastTwo l b v) in
+          ⊎-elim
+          (λ d. omega (arith, parts, few-down Ksd Operating p d, last, all-types l, fine .systems .few))
+          (λ f. omega (arith, parts, few-down Ksf Operating p f, last, all-types l, fine .systems .few))
+          h
       go (Pair w t) h =
           omega (
             arith,

@@ -1,6 +1,7 @@
 -- The enabled frames of two memories are the same where the systems are alike along every enabled chain.
 use Prim.Native.Nat.{ℕ, _≤_, _<_}
 use mathlib.Core.Path.{_≡_, refl, sym, ap, _∙_}
+use mathlib.Core.Logic.{⊎-elim}
 use mathlib.Core.List.{List, [], _∷_, _++_, map}
 use mathlib.Core.Bool.{Bool, false, _||_}
 use borrow.Author.Tests.{eqb-false}
@@ -99,7 +100,7 @@ module _ (m : Memory) (fine : Fine m) where
       }
     where
       part : (o : OperatingPart) → PartPlaced (m .systems) o → PartHas (λ q. q ≤ length (m .systems)) o
-      part (Single p) h = placed-within (m .systems) _ p h
+      part (Single p) h = ⊎-elim (placed-within (m .systems) _ p) (placed-within (m .systems) _ p) h
       part (Pair w t) h = (placed-within (m .systems) _ w (h .0), placed-within (m .systems) _ t (h .1))
 
   -- a system that is not in use is met by no enabled chain

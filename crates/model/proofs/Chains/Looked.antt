@@ -1,11 +1,12 @@
 -- The systems that the test for use looks at: each is a system of the memory, and the place of one is among them exactly where the old test finds it.
 use Prim.Native.Nat.{ℕ, zero, suc}
 use mathlib.Core.Path.{_≡_, refl, ap, _∙_}
+use mathlib.Core.Logic.{⊎-elim}
 use mathlib.Core.List.{List, [], _∷_, _++_, map}
 use mathlib.Core.Bool.{Bool, _||_}
 use native.Mathlib.Omega.{arith}
 use lib.Dec.{eqb}
-use Rattle.model.specs.Types.{Kind, Ksd, Kst, Ksw, Ksb, Kld, Operating, Orientational, Levelling, OperatingPart, Single, Pair}
+use Rattle.model.specs.Types.{Kind, Ksd, Kst, Ksw, Ksb, Kld, Ksf, Operating, Orientational, Levelling, OperatingPart, Single, Pair}
 use Rattle.model.specs.Lists.{any, joined, Search}
 use Rattle.model.specs.Kinds.{ofKind}
 use Rattle.model.specs.Memory.{System, Memory, Ref}
@@ -69,7 +70,7 @@ looked-systems m fine = rw (looked-parts m) (go (m .enabled .operating) (fine .e
     last = front Ksb (m .enabled .orientational) _ (fine .enabled .orientational) (front Kld (m .enabled .levelling) [] (fine .enabled .levelling) tt)
 
     go : (o : OperatingPart) → PartPlaced l o → Each (IsSystem l) (lookedWith l (m .enabled .orientational) (m .enabled .levelling) o)
-    go (Single p) h = front Ksd p _ h last
+    go (Single p) h = ⊎-elim (λ d. front Ksd p _ d last) (λ f. front Ksf p _ f last) h
     go (Pair w t) h = front Ksw w _ (h .0) (front Kst t _ (h .1) last)
 
 -- ---- the old test

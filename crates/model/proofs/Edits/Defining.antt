@@ -6,7 +6,7 @@ use mathlib.Core.Bool.{true, false}
 use native.Mathlib.Omega.{arith}
 use borrow.Author.Tests.{not-false, ne-eqb, eqb-false}
 use lib.Dec.{eqb}
-use Rattle.model.specs.Types.{Kind, Ksd, Kst, Ksw, Ksb, Kld, Group, Operating, Orientational, Levelling, Vec3, Turns}
+use Rattle.model.specs.Types.{Kind, Ksd, Kst, Ksw, Ksb, Kld, Ksf, Group, Operating, Orientational, Levelling, Vec3, Turns}
 use Rattle.model.specs.Kinds.{ofKind, sameKind}
 use Rattle.model.specs.Memory.{Memory, systemAt, isUser, placeNamed, named, userNamed, meant}
 use Rattle.model.specs.Chain.{predOf, onChain}
@@ -55,6 +55,7 @@ module _ (m : Memory) (fine : Fine m) where
   first-placed Ksw h = absurd (omega arith)
   first-placed Ksb h = fine .enabled .orientational h
   first-placed Kld h = fine .enabled .levelling h
+  first-placed Ksf h = absurd (omega arith)
 
   first-missed : (a : ℕ) → 0 < a → EachEnabled (Misses (m .systems) a) (m .enabled) → (g : Group) → Misses (m .systems) a (firstPred (m .enabled) g)
   first-missed a pos u Operating = λ i e. let z = hop-zero (m .systems) i in absurd (omega arith)

@@ -2,12 +2,12 @@
 use Prim.Native.Nat.{ℕ, _≤_, _<_}
 use mathlib.Core.Path.{refl}
 use mathlib.Core.List.{List}
-use mathlib.Core.Logic.{⊎-elim}
+use mathlib.Core.Logic.{⊎-elim, inl, inr}
 use native.Mathlib.Omega.{arith}
 use borrow.Author.Tests.{eqb-false}
 use lib.Dec.{eqb}
 use lib.ListN.{length}
-use Rattle.model.specs.Types.{Kind, Ksd, Kst, Ksw, Ksb, Kld, Group, Operating, Orientational, Levelling, Enabled, OperatingPart, Single, Pair}
+use Rattle.model.specs.Types.{Kind, Ksd, Kst, Ksw, Ksb, Kld, Ksf, Group, Operating, Orientational, Levelling, Enabled, OperatingPart, Single, Pair}
 use Rattle.model.specs.Memory.{System, Memory, Ref, systemAt, named}
 use Rattle.model.specs.Effects.{workHalf, toolHalf, enabledUser, enabledFixed, enabling}
 use Rattle.model.proofs.Basics.{either}
@@ -31,17 +31,18 @@ module _ (l : List System) where
   module _ (e : Enabled) (f : EnabledPlaced l e) where
     user-enabled : (k : Kind) (p : ℕ) → 0 < p → Placed l k p → EnabledPlaced l (enabledUser e k p)
     unfolding enabledUser
-    user-enabled Ksd p h g = record { operating = g; orientational = f .orientational; levelling = f .levelling }
+    user-enabled Ksd p h g = record { operating = inl g; orientational = f .orientational; levelling = f .levelling }
     user-enabled Kst p h g = record { operating = (work-placed (e .operating) (f .operating), g, omega arith); orientational = f .orientational; levelling = f .levelling }
     user-enabled Ksw p h g = record { operating = (g, tool-placed (e .operating) (f .operating), omega arith); orientational = f .orientational; levelling = f .levelling }
     user-enabled Ksb p h g = record { operating = f .operating; orientational = g; levelling = f .levelling }
     user-enabled Kld p h g = record { operating = f .operating; orientational = f .orientational; levelling = g }
+    user-enabled Ksf p h g = record { operating = inr g; orientational = f .orientational; levelling = f .levelling }
 
     fixed-enabled : (level : ℕ) (g : Group) → EnabledPlaced l (enabledFixed level e g)
     unfolding enabledFixed
     fixed-enabled level Operating =
-        ⊎-elim (λ one. rw one (record { operating = fixed-placed Ksd; orientational = f .orientational; levelling = fixed-placed Kld }))
-        (λ other. rw other (record { operating = fixed-placed Ksd; orientational = f .orientational; levelling = f .levelling }))
+        ⊎-elim (λ one. rw one (record { operating = inl (fixed-placed Ksd); orientational = f .orientational; levelling = fixed-placed Kld }))
+        (λ other. rw other (record { operating = inl (fixed-placed Ksd); orientational = f .orientational; levelling = f .levelling }))
         (either (eqb level 1))
     fixed-enabled level Orientational = record { operating = f .operating; orientational = fixed-placed Ksb; levelling = f .levelling }
     fixed-enabled level Levelling = record { operating = f .operating; orientational = f .orientational; levelling = fixed-placed Kld }

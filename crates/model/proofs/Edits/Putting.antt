@@ -3,7 +3,7 @@ use Prim.Native.Nat.{ℕ, suc, _-_, _≤_, _<_}
 use mathlib.Core.Path.{_≡_, refl, sym, ap, _∙_}
 use mathlib.Core.List.{List, [], _∷_, _++_}
 use mathlib.Core.Bool.{true, false}
-use mathlib.Core.Logic.{⊎-elim}
+use mathlib.Core.Logic.{⊎-elim, inl, inr}
 use native.Mathlib.Omega.{arith}
 use native.Mathlib.Decide.{decLt, ℕ-discrete}
 use borrow.Author.Tests.{leb-false}
@@ -37,7 +37,7 @@ enabled-extends {l} {l′} x e p =
     }
   where
     part : (o : OperatingPart) → PartPlaced l o → PartPlaced l′ o
-    part (Single p) g = placed-extends x _ p g
+    part (Single p) g = ⊎-elim (λ h. inl (placed-extends x _ p h)) (λ h. inr (placed-extends x _ p h)) g
     part (Pair w t) g = (placed-extends x _ w (g .0), placed-extends x _ t (g .1), g .2)
 
 -- ---- in its place

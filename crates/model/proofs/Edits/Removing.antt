@@ -3,11 +3,11 @@ use Prim.Native.Nat.{ℕ, _+_, _≤_, _<_}
 use mathlib.Core.Path.{_≡_, sym, ap, _∙_}
 use mathlib.Core.List.{List}
 use mathlib.Core.Bool.{true, false}
-use mathlib.Core.Logic.{⊎-elim}
+use mathlib.Core.Logic.{⊎-elim, inl, inr}
 use native.Mathlib.Omega.{arith}
 use native.Mathlib.Decide.{decLt, ℕ-discrete}
 use lib.ListN.{length}
-use Rattle.model.specs.Types.{Kind, Ksd, Kst, Ksw, Ksb, Kld, OperatingPart, Single, Pair}
+use Rattle.model.specs.Types.{Kind, Ksd, Kst, Ksw, Ksb, Kld, Ksf, OperatingPart, Single, Pair}
 use Rattle.model.specs.Memory.{System, Memory, systemAt, isUser, placeNamed}
 use Rattle.model.specs.Chain.{hop}
 use Rattle.model.specs.Use.{nameInUse}
@@ -99,7 +99,7 @@ module _ (m : Memory) (fine : Fine m) (a : ℕ) (at : Stands (m .systems) a) whe
 
   part-mended : (o : OperatingPart) → PartHas (Misses l a) o → PartPlaced l o → PartPlaced (without l a) (mendedPart (mended a p) o)
   unfolding mendedPart
-  part-mended (Single q) off f = carried Ksd q f
+  part-mended (Single q) off f = ⊎-elim (λ h. inl (carried Ksd q h)) (λ h. inr (carried Ksf q h)) f
   part-mended (Pair w t) off f = (carried Ksw w (f .0), carried Kst t (f .1), go (decLt 0 w))
     where
       go : Dec (0 < w) → 0 < mended a p w + mended a p t

@@ -1,4 +1,4 @@
--- The permanent memory is set by an accepted WPA, and by nothing else: by no other line, no refusal and no restart.
+-- The permanent memory is set by an accepted WPA, and by nothing else: by no other line, no refusal, no position and no restart.
 use Prim.Native.Nat.{ℕ}
 use mathlib.Core.Path.{_≡_, refl, ap}
 use mathlib.Core.List.{List}
@@ -7,14 +7,15 @@ use mathlib.Core.Logic.{⊎-elim}
 use native.Mathlib.Omega.{arith}
 use borrow.Author.Tests.{ne-eqb}
 use lib.Dec.{eqb}
+use Rattle.model.specs.Types.{Position}
 use Rattle.model.specs.Memory.{State}
 use Rattle.model.specs.WellFormed.{wellFormed}
-use Rattle.model.specs.Request.{Reading, reading, unknown, malformed, beyond, asks, change, list, lastError, define, link, copy, remove, enable, setLevel, save, restore, reset}
+use Rattle.model.specs.Request.{Reading, reading, unknown, malformed, beyond, asks, change, list, lastError, define, link, copy, remove, enable, setLevel, save, restore, reset, locate}
 use Rattle.model.specs.Effects.{changed, next}
-use Rattle.model.specs.Machine.{Begun, carriedOut, stepped, restart}
+use Rattle.model.specs.Machine.{Begun, carriedOut, stepped, restart, positioned}
 use Rattle.model.specs.Checklist.{asksToSave}
 use Rattle.model.proofs.Basics.{either}
-use Rattle.model.proofs.Ladder.Refusing.{by-case, carried-number, restart-ill, restart-fine}
+use Rattle.model.proofs.Ladder.Refusing.{by-case, carried-number, restart-ill, restart-fine, position-case}
 
 -- what is carried out
 pub permanent-read : (st : State) (r : Reading) (b : List ℕ) → carriedOut st r b .state .permanent ≡ cond (asksToSave r) (st .volatile) (st .permanent)
@@ -23,6 +24,7 @@ permanent-read st unknown b = refl
 permanent-read st malformed b = refl
 permanent-read st beyond b = refl
 permanent-read st (asks (change (define k n t u))) b = refl
+permanent-read st (asks (change (locate n))) b = refl
 permanent-read st (asks (change (link n d))) b = refl
 permanent-read st (asks (change (copy s d))) b = refl
 permanent-read st (asks (change (remove n))) b = refl
@@ -42,6 +44,10 @@ line-permanent st line b =
     (λ w. refl)
     (λ n h h′. rw (ne-eqb n 0 (omega arith)))
     (λ w z. rw (carried-number st (reading line) b) (permanent-read st (reading line) b))
+
+-- after a position
+pub position-permanent : (st : State) (p : Position) → positioned st p .state .permanent ≡ st .permanent
+position-permanent st p = position-case st p (λ o. o .state .permanent ≡ st .permanent) (λ w. refl) refl (λ w f. refl)
 
 -- after a restart
 pub restart-permanent : (st : State) → restart st .state .permanent ≡ st .permanent

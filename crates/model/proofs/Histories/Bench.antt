@@ -14,7 +14,7 @@ use Rattle.model.specs.WellFormed.{wellFormed}
 use Rattle.model.specs.Request.{reading}
 use Rattle.model.specs.Image.{image}
 use Rattle.model.specs.Machine.{Begun, began, stepped, restart, startFactory}
-use Rattle.model.specs.Trace.{Call, line, called, afterCalls, printed, session, outcomes, inputLines, answersTo}
+use Rattle.model.specs.Trace.{Call, line, called, afterCalls, printed, session, outcomes, inputLines, answersTo, entering}
 use Rattle.model.specs.Checklist.{asksToSave}
 use Rattle.model.specs.Demand.{Start, factory-start, image-start, startState}
 use Rattle.model.specs.PowerSwitch.{saves, noneSaves}
@@ -96,7 +96,7 @@ answers-alike k st b (l ∷ ls) =
 
 -- the image that a saving line has stored
 image-due : (st : State) (l b : List ℕ) →
-    cond (saves st (line l b)) (image (stepped st l b .state .permanent) ∷ []) [] ≡ cond (saves st (line l b)) (image (st .volatile) ∷ []) []
+    cond (saves st (entering (line l b))) (image (stepped st l b .state .permanent) ∷ []) [] ≡ cond (saves st (entering (line l b))) (image (st .volatile) ∷ []) []
 unfolding saves
 image-due st l b =
     ⊎-elim
@@ -113,7 +113,7 @@ images-gathered true x st b (l ∷ ls) =
     let k = manner true x in
     more imageOf k st l b (acted k (o .state) (o .buffer) ls)
     ∙ rw (none-printed imageOf (λ c. refl) (printed o), line-images k st l b, image-due st l b)
-    (ap (λ (t : List (List ℕ)). cond (saves st (line l b)) (image (st .volatile) ∷ []) [] ++ t) (images-gathered true x (o .state) (o .buffer) ls))
+    (ap (λ (t : List (List ℕ)). cond (saves st (entering (line l b))) (image (st .volatile) ∷ []) [] ++ t) (images-gathered true x (o .state) (o .buffer) ls))
 images-gathered false x st b [] = refl
 images-gathered false x st b (l ∷ ls) =
     let o = stepped st l b in
@@ -160,7 +160,7 @@ after-due f false n st = ⊎-elim (λ e. rw e refl) (λ e. rw e refl) (either (e
 
 -- after a line of a session that stores
 after-line : (f : Option (List ℕ)) (x : Bool) (st : State) (l b : List ℕ) →
-    fileAfter f (lineActs (manner true x) st l b) ≡ cond (saves st (line l b)) (some (image (stepped st l b .state .permanent))) f
+    fileAfter f (lineActs (manner true x) st l b) ≡ cond (saves st (entering (line l b))) (some (image (stepped st l b .state .permanent))) f
 after-line f x st l b =
     let o = stepped st l b in
     let k = manner true x in
@@ -189,8 +189,8 @@ after-lines f x st b (l ∷ ls) =
     let later = acted (manner true x) (o .state) (o .buffer) ls in
     after-append f (lineActs (manner true x) st l b) later
     ∙ ap (λ (h : Option (List ℕ)). fileAfter h later) (after-line f x st l b)
-    ∙ after-lines (cond (saves st (line l b)) (some (image (o .state .permanent))) f) x (o .state) (o .buffer) ls
-    ∙ ⊎-elim (λ s. rw s (last-one (o .state) cs)) (λ s. rw s refl) (either (saves st (line l b)))
+    ∙ after-lines (cond (saves st (entering (line l b))) (some (image (o .state .permanent))) f) x (o .state) (o .buffer) ls
+    ∙ ⊎-elim (λ s. rw s (last-one (o .state) cs)) (λ s. rw s refl) (either (saves st (entering (line l b))))
   where
     -- this line saved, and what came later did or did not
     last-one : (st′ : State) (cs : List Call) →

@@ -13,7 +13,7 @@ use Rattle.model.specs.Use.{lookedAt, useTest}
 use Rattle.model.specs.Request.{resultantIn}
 use Rattle.model.specs.Refusals.{absent, queryLadder}
 use Rattle.model.specs.Reply.{poseLine, relativeLine, listing, listed}
-use Rattle.model.specs.Trace.{afterCalls, afterLines}
+use Rattle.model.specs.Trace.{afterCalls, afterInputs}
 use Rattle.model.specs.Demand.{held, startState}
 use Rattle.model.specs.Checklist.{underEnabled}
 use Rattle.model.specs.Stored.{Answered, stateOf}
@@ -29,8 +29,8 @@ use Rattle.model.proofs.Ladder.Queries.{query-alike}
 use Rattle.model.proofs.Views.{view-is}
 use Rattle.model.proofs.Histories.InUse.{use-by-system, named-found, says-the-same, under-enabled, frames-alike}
 use Rattle.model.proofs.Histories.Kept.{well-formed-kept}
-use Rattle.model.proofs.Histories.Still.{still-lines}
-use Rattle.model.proofs.Histories.Stored.{begins-held, calls-held, lines-held, lines-steady, line-promised, line-taken, line-text}
+use Rattle.model.proofs.Histories.Still.{still-inputs}
+use Rattle.model.proofs.Histories.Stored.{begins-held, calls-held, inputs-held, inputs-steady, line-promised, line-taken, line-text}
 use Rattle.model.proofs.Histories.Relative.{one-frame-from-another}
 
 -- ---- a system in use, by its name
@@ -106,7 +106,7 @@ module _ (m m′ : Memory) (fine : Fine m) (fine′ : Fine m′) (still : unmove
 -- ---- the claims
 
 pub stored-seen : StoredSeen
-unfolding afterLines
+unfolding afterInputs
 stored-seen start calls s₀ s begun history line a b readable asked g p q buffer r promise room =
     let st = afterCalls (startState start) calls in
     let h = calls-held (startState start) (begins-held begun) history in
@@ -116,16 +116,16 @@ stored-seen start calls s₀ s begun history line a b readable asked g p q buffe
     (line-taken s st h line _ k buffer r promise room, line-text s st h line _ k buffer r promise room ∙ ap (λ (t : State). seenLine (t .volatile) a b) (sym e))
 
 pub seen-again : SeenAgain
-unfolding afterLines
+unfolding afterInputs
 seen-again start first second numbers s₀ s s′ begun calls lines steady line a b asked u v buffer r r′ p p′ =
     let st = afterCalls (startState start) first in
-    let st′ = afterLines st second in
+    let st′ = afterInputs st second in
     let h = calls-held (startState start) (begins-held begun) calls in
-    let h′ = lines-held st h lines in
+    let h′ = inputs-held st h lines in
     let w = well-formed-kept .history start first [] in
     let w′ = well-formed-kept .history start first second in
     let e : stateOf s ≡ st = view-is s st h .1 in
-    let still = still-lines st second (lines-steady st h lines steady) in
+    let still = still-inputs st second (inputs-steady st h lines steady) in
     let fine = fine-of (st .volatile) (state-of st w .volatile) in
     let fine′ = fine-of (st′ .volatile) (state-of st′ w′ .volatile) in
     let used : (n : List ℕ) → underEnabled (stateOf s .volatile) n ≡ true → underEnabled (st .volatile) n ≡ true =

@@ -3,7 +3,7 @@ use Prim.Native.Nat.{ℕ, zero, suc, _<_}
 use mathlib.Core.Path.{_≡_, refl, ap, _∙_}
 use mathlib.Core.List.{List, _++_, map, append-assoc, append-nil}
 use mathlib.Core.Bool.{true}
-use mathlib.Core.Logic.{inl, inr}
+use mathlib.Core.Logic.{inl, inr, ⊎-elim}
 use native.Mathlib.Omega.{arith}
 use native.Mathlib.Decide.{decLt}
 use lib.ListN.{length}
@@ -19,7 +19,7 @@ use Rattle.model.specs.Request.{reading, asks, list, resultants}
 use Rattle.model.specs.Refusals.{first}
 use Rattle.model.specs.Reply.{decimal, sixValues, listing, everySystem, poseLine, resultantLine}
 use Rattle.model.specs.Demand.{startState, Defined, OperatingDefined, Reaches, Sound, Replies, Listed, Demand3}
-use Rattle.model.specs.Trace.{afterCalls, afterLines}
+use Rattle.model.specs.Trace.{afterCalls, afterInputs}
 use Rattle.model.proofs.Open.{definitions-open}
 use Rattle.model.proofs.Chains.Hops.{hop-last, ring-free}
 use Rattle.model.proofs.Chains.Steps.{Ends, steps-within, steps-end, steps-before, chain-length, chain-zero}
@@ -27,7 +27,7 @@ use Rattle.model.proofs.Chains.Standing.{Unmoved}
 use Rattle.model.proofs.Memories.Fine.{Placed, PartPlaced, Systems, Fine, state-of, fine-of}
 use Rattle.model.proofs.Ladder.Queries.{query-replies}
 use Rattle.model.proofs.Histories.Kept.{well-formed-kept}
-use Rattle.model.proofs.Histories.Still.{still-lines}
+use Rattle.model.proofs.Histories.Still.{still-inputs}
 
 -- ---- one memory
 
@@ -40,7 +40,7 @@ module _ (l : List System) where
       go (no h) = inl (omega arith)
 
   part-defined : (o : OperatingPart) → PartPlaced l o → OperatingDefined l o
-  part-defined (Single p) f = defined _ p f
+  part-defined (Single p) f = ⊎-elim (λ h. inl (defined _ p h)) (λ h. inr (defined _ p h)) f
   part-defined (Pair w t) f = (defined _ w (f .0), defined _ t (f .1), λ z. let h = f .2 in let a = z .0 in let b = z .1 in omega arith)
 
   -- a predecessor that is a user system has its successor's type
@@ -113,11 +113,11 @@ klt-listed st w = record { shown = klt-shown st w; steps = klt-line (st .volatil
 pub demand-3 : Demand3
 demand-3 start first second s =
     let w = well-formed-kept .history start first second in
-    let st = afterLines (afterCalls (startState start) first) second in
+    let st = afterInputs (afterCalls (startState start) first) second in
     let f = state-of st w in
     record {
       volatile = sound (st .volatile) (fine-of (st .volatile) (f .volatile));
       permanent = sound (st .permanent) (fine-of (st .permanent) (f .permanent));
       listed = klt-listed st w;
-      still = ap (λ (u : Unmoved). u .frames) (still-lines (afterCalls (startState start) first) second s);
+      still = ap (λ (u : Unmoved). u .frames) (still-inputs (afterCalls (startState start) first) second s);
     }

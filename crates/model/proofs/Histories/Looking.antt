@@ -14,7 +14,7 @@ use Rattle.model.specs.Memory.{Memory, State, factory, nameOf, noTurn}
 use Rattle.model.specs.Use.{lookedAt, namesLookedAt, useTest}
 use Rattle.model.specs.WellFormed.{memoryFine, wellFormed}
 use Rattle.model.specs.Machine.{Usage, tellsUse}
-use Rattle.model.specs.Trace.{afterCalls, afterLines}
+use Rattle.model.specs.Trace.{afterCalls, afterInputs}
 use Rattle.model.specs.Demand.{startState}
 use Rattle.model.specs.Stored.{holds, viewOf, useAnswer}
 use Rattle.model.specs.Histories.{UsePromise}
@@ -28,7 +28,7 @@ use Rattle.model.proofs.Ladder.Exact.{use-fine}
 use Rattle.model.proofs.Histories.InUse.{says-the-same, frames-looked-at, under-enabled, frames-alike}
 use Rattle.model.proofs.Histories.Kept.{well-formed-kept}
 use Rattle.model.proofs.Histories.Demand3.{demand-3}
-use Rattle.model.proofs.Histories.Stored.{begins-held, calls-held, lines-held, lines-steady}
+use Rattle.model.proofs.Histories.Stored.{begins-held, calls-held, inputs-held, inputs-steady}
 
 -- ---- how many are looked at
 
@@ -105,13 +105,13 @@ unfolding useAnswer
 use-promised s st h w n r p = p ∙ rw h (use-fine st n w)
 
 pub asked-again : AskedAgain
-unfolding afterLines
+unfolding afterInputs
 asked-again start first second numbers s₀ s s′ begun calls lines still n r r′ p p′ =
     let st = afterCalls (startState start) first in
-    let st′ = afterLines st second in
+    let st′ = afterInputs st second in
     let h = calls-held (startState start) (begins-held begun) calls in
-    let h′ = lines-held st h lines in
-    let d = demand-3 start first second (lines-steady st h lines still) in
+    let h′ = inputs-held st h lines in
+    let d = demand-3 start first second (inputs-steady st h lines still) in
     use-promised s′ st′ h′ (well-formed-kept .history start first second) n r′ p′
     ∙ ap tellsUse (frames-alike (st′ .volatile) (st .volatile) (d .still) n)
     ∙ sym (use-promised s st h (well-formed-kept .history start first []) n r p)

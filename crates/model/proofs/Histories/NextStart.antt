@@ -14,7 +14,7 @@ use Rattle.model.specs.Memory.{Memory, State, started, placeNamed, isUse
 use Rattle.model.specs.Use.{nameInUse}
 use Rattle.model.specs.Words.{reserved}
 use Rattle.model.specs.WellFormed.{wellFormed}
-use Rattle.model.specs.Request.{Reading, reading, unknown, malformed, beyond, asks, change, list, lastError, define, link, copy, remove, enable, setLevel, save, restore, reset, enabledOnes, systemsAll, links, resultants, resultantOf, resultantIn}
+use Rattle.model.specs.Request.{Reading, reading, unknown, malformed, beyond, asks, change, list, lastError, define, link, copy, remove, enable, setLevel, save, restore, reset, enabledOnes, systemsAll, links, resultants, resultantOf, resultantIn, locate}
 use Rattle.model.specs.Refusals.{first, short, unreadable, absent, locked, changeLadder, queryLadder, requestLadder, readingLadder, ladder, refusal}
 use Rattle.model.specs.Effects.{withVolatile, withError, removedAt, changed, next}
 use Rattle.model.specs.Machine.{Outcome, Begun, carriedOut, stepped, restart, writeImage}
@@ -79,6 +79,7 @@ module _ (st : State) (w : wellFormed st ≡ true) (line b : List ℕ) (f : Firs
   only-removals malformed e a = true-false (sym a)
   only-removals beyond e a = true-false (sym a)
   only-removals (asks (change (define k n t u))) e a = true-false (sym a)
+  only-removals (asks (change (locate n))) e a = true-false (sym a)
   only-removals (asks (change (link x y))) e a = true-false (sym a)
   only-removals (asks (change (copy s d))) e a = true-false (sym a)
   only-removals (asks (change (remove n))) e a = for-needed n e
@@ -101,13 +102,14 @@ module _ (st : State) (w : wellFormed st ≡ true) (line b : List ℕ) (f : Firs
 
 -- ---- what stays free
 
-module _ (st st′ : State) (e : st′ .volatile ≡ st .volatile) (l : st′ .level ≡ st .level) where
+module _ (st st′ : State) (e : st′ .volatile ≡ st .volatile) (l : st′ .level ≡ st .level) (p : st′ .position ≡ st .position) where
   ladders-alike : (r : Reading) → ((n : List ℕ) → r ≡ asks (change (remove n)) → ⊥) → readingLadder st′ r ≡ readingLadder st r
   unfolding readingLadder requestLadder changeLadder
   ladders-alike unknown other = refl
   ladders-alike malformed other = refl
   ladders-alike beyond other = refl
   ladders-alike (asks (change (define k n t u))) other = rw (e, l) refl
+  ladders-alike (asks (change (locate n))) other = rw (e, p) refl
   ladders-alike (asks (change (link x y))) other = rw (e, l) refl
   ladders-alike (asks (change (copy s d))) other = rw (e, l) refl
   ladders-alike (asks (change (remove n))) other = absurd (other n refl)
@@ -121,9 +123,9 @@ module _ (st st′ : State) (e : st′ .volatile ≡ st .volatile) (l : st′ .l
 
 others-stay-free : OthersStayFree
 unfolding refusal ladder
-others-stay-free st st′ w w′ e l line b other =
+others-stay-free st st′ w w′ e l p line b other =
     step-number st′ line b w′
-    ∙ ap (λ rungs. first ((2, short b) ∷ (3, unreadable line) ∷ rungs)) (ladders-alike st st′ e l (reading line) other)
+    ∙ ap (λ rungs. first ((2, short b) ∷ (3, unreadable line) ∷ rungs)) (ladders-alike st st′ e l p (reading line) other)
     ∙ sym (step-number st line b w)
 
 -- ---- what an accepted KRM leaves
@@ -221,6 +223,7 @@ asked-save unknown e = true-false (sym e)
 asked-save malformed e = true-false (sym e)
 asked-save beyond e = true-false (sym e)
 asked-save (asks (change (define k n t u))) e = true-false (sym e)
+asked-save (asks (change (locate n))) e = true-false (sym e)
 asked-save (asks (change (link x y))) e = true-false (sym e)
 asked-save (asks (change (copy s d))) e = true-false (sym e)
 asked-save (asks (change (remove n))) e = true-false (sym e)
@@ -251,7 +254,7 @@ module _ (st : State) (w : wellFormed st ≡ true) (wpa b : List ℕ) (s : asksT
   after = stepped st wpa b .state
 
   -- the volatile memory in both places, and all else as it was
-  saved : after ≡ record { volatile = st .volatile; permanent = st .volatile; level = st .level; error = st .error }
+  saved : after ≡ record { volatile = st .volatile; permanent = st .volatile; position = st .position; level = st .level; error = st .error }
   unfolding carriedOut next changed
   saved = ap (λ (o : Outcome). o .state) (step-taken st w wpa b (asks (change save)) (asked-save (reading wpa) s) (sym (step-number st wpa b w) ∙ z))
 

@@ -14,12 +14,12 @@ use Rattle.model.specs.Refusals.{short, queryLadder}
 use Rattle.model.specs.Reply.{listed}
 use Rattle.model.specs.Image.{image}
 use Rattle.model.specs.Machine.{Begun, began, stepped, restart, writeImage, startImage}
-use Rattle.model.specs.Trace.{Line, afterLines}
+use Rattle.model.specs.Trace.{Input, afterInputs}
 use Rattle.model.specs.Demand.{noneTaken}
 use Rattle.model.specs.Checklist.{asksToSave, ListsAlike, startFrom, switchedOn, SavedComesBack}
 use Rattle.model.proofs.Ladder.Refusing.{restart-fine, image-fine}
 use Rattle.model.proofs.Edits.Saving.{permanent-read, line-permanent}
-use Rattle.model.proofs.Histories.Untaken.{untaken-lines}
+use Rattle.model.proofs.Histories.Untaken.{untaken-inputs}
 use Rattle.model.proofs.Ladder.Queries.{query-alike}
 use Rattle.model.proofs.Memories.Fine.{state-of}
 use Rattle.model.proofs.Ladder.Exact.{start-some}
@@ -32,8 +32,8 @@ pub saved-line : (st : State) (line b : List ℕ) → asksToSave (reading line) 
     stepped st line b .state .permanent ≡ st .volatile
 saved-line st line b s z = line-permanent st line b ∙ rw (s, z)
 
-unsaved-lines : (st : State) (cs : List Line) → noneTaken asksToSave st cs ≡ true → afterLines st cs .permanent ≡ st .permanent
-unsaved-lines = untaken-lines asksToSave (λ st. st .permanent) (λ st n. refl) (λ st line b w z e. permanent-read st (reading line) b ∙ rw e)
+unsaved-inputs : (st : State) (cs : List Input) → noneTaken asksToSave st cs ≡ true → afterInputs st cs .permanent ≡ st .permanent
+unsaved-inputs = untaken-inputs asksToSave (λ st. st .permanent) (λ st n. refl) (λ st p. refl) (λ st line b w z e. permanent-read st (reading line) b ∙ rw e)
 
 -- ---- listings depend on the volatile memory alone
 
@@ -55,10 +55,10 @@ image-back st w b h =
 pub saved-comes-back : (st : State) → wellFormed st ≡ true → SavedComesBack st
 saved-comes-back st w line b s z later none =
     let after = stepped st line b .state in
-    let end = afterLines after later in
+    let end = afterInputs after later in
     let w₁ = well-formed-kept .line st line b w in
-    let w₂ = well-formed-kept .lines after later w₁ in
-    let kept : end .permanent ≡ st .volatile = unsaved-lines after later none ∙ saved-line st line b s z in
+    let w₂ = well-formed-kept .inputs after later w₁ in
+    let kept : end .permanent ≡ st .volatile = unsaved-inputs after later none ∙ saved-line st line b s z in
     let back : restart end .state .volatile ≡ st .volatile = ap (λ (o : Begun). o .state .volatile) (restart-fine end w₂) ∙ kept in
     let again : (c : List ℕ) → bufferLimit ≤ length c → switchedOn (writeImage end c) .volatile ≡ st .volatile =
     λ c h. ap (λ (o : Begun). o .state .volatile) (image-back end w₂ c h) ∙ kept in

@@ -1,13 +1,14 @@
 -- The checklist's first two items: KEN? shows one system or pair for each group, and KLN? leads every name down to its group's fixed system.
 use Prim.Native.Nat.{ℕ, zero, suc, _≤_, _<_}
 use mathlib.Core.Path.{_≡_, refl, sym, ap, _∙_}
+use mathlib.Core.Logic.{⊎-elim}
 use mathlib.Core.List.{List, map, append-nil}
 use mathlib.Core.Bool.{true, false}
 use mathlib.Core.Option.{some}
 use native.Mathlib.Omega.{arith}
 use native.Mathlib.Decide.{decLt}
 use lib.ListN.{length}
-use Rattle.model.specs.Types.{Kind, Ksd, Kst, Ksw, Ksb, Kld, Operating, Orientational, Levelling, OperatingPart, Single, Pair}
+use Rattle.model.specs.Types.{Kind, Ksd, Kst, Ksw, Ksb, Kld, Operating, Orientational, Levelling, OperatingPart, Single, Pair, Ksf}
 use Rattle.model.specs.Ascii.{ascii}
 use Rattle.model.specs.Lists.{any, same, oneOf, joined, table}
 use Rattle.model.specs.Kinds.{ofKind, ofGroup}
@@ -54,7 +55,7 @@ module _ (m : Memory) (fine : Fine m) where
 
   one-or-pair : (o : OperatingPart) → PartPlaced (m .systems) o → OneOrPair m (map (inGroup Operating) (operatingPlaces o))
   unfolding oneOf any same
-  one-or-pair (Single p) h = one (inGroup Operating p) (allowed Ksd _ refl refl p h)
+  one-or-pair (Single p) h = one (inGroup Operating p) (⊎-elim (allowed Ksd _ refl refl p) (allowed Ksf _ refl refl p) h)
   one-or-pair (Pair w t) h =
       work-and-tool (inGroup Operating w) (inGroup Operating t) (allowed Ksw _ refl refl w (h .0)) (allowed Kst _ refl refl t (h .1)) (go (decLt 0 w))
     where

@@ -11,12 +11,12 @@ use Rattle.model.specs.Lists.{any}
 use Rattle.model.specs.Memory.{System, Memory, State, systemAt, placeNamed, isUser, named, userNamed}
 use Rattle.model.specs.Chain.{hop}
 use Rattle.model.specs.Use.{inUse, usedAt, nameInUse}
-use Rattle.model.specs.Request.{Change, Reading, reading, unknown, malformed, beyond, asks, change, list, lastError, define, link, copy, remove, enable, setLevel, save, restore, reset}
+use Rattle.model.specs.Request.{Change, Reading, reading, unknown, malformed, beyond, asks, change, list, lastError, define, link, copy, remove, enable, setLevel, save, restore, reset, locate}
 use Rattle.model.specs.Words.{reserved}
 use Rattle.model.specs.Refusals.{absent, changeLadder, requestLadder, readingLadder}
-use Rattle.model.specs.Effects.{withSystems, withPred, withName, put, fresh, linked, mended, removedAt, changed, next}
+use Rattle.model.specs.Effects.{withSystems, withPred, withName, put, fresh, linked, mended, removedAt, changed, next, located}
 use Rattle.model.specs.Machine.{carriedOut}
-use Rattle.model.specs.Trace.{Line, afterLines}
+use Rattle.model.specs.Trace.{Input, afterInputs}
 use Rattle.model.specs.Claims.{applies}
 use Rattle.model.specs.Demand.{changesEnabled, asksToEnable, steady}
 use Rattle.model.proofs.Basics.{or-false, either, true-false}
@@ -28,7 +28,7 @@ use Rattle.model.proofs.Edits.Removal.{mended-zero, mended-in-range, wi
 use Rattle.model.proofs.Memories.Fine.{Fine, Stands, preds-within, state-of, fine-of}
 use Rattle.model.proofs.Memories.Named.{user-place, place-stands, place-name, present-user}
 use Rattle.model.proofs.Ladder.First.{Clear, clear-of}
-use Rattle.model.proofs.Histories.Untaken.{untaken-lines}
+use Rattle.model.proofs.Histories.Untaken.{untaken-inputs}
 use Rattle.model.proofs.Chains.Frames.{each-also, each-both, enabled-unmoved, enabled-within, unused-missed}
 use Rattle.model.proofs.Chains.Standing.{unmoved, carried-unmoved}
 
@@ -140,10 +140,13 @@ module _ (m : Memory) (fine : Fine m) where
 -- an accepted change other than KEN, RPA and DPA
 pub still-changed : (st : State) → Fine (st .volatile) → (c : Change) → changesEnabled c ≡ false → Clear (changeLadder st (st .volatile) c) →
     unmoved (changed st (st .volatile) c .volatile) ≡ unmoved (st .volatile)
-unfolding changed changesEnabled changeLadder applies any fresh
+unfolding changed changesEnabled changeLadder applies any fresh located
 still-changed st fine (define k n t u) e clear =
     let m = st .volatile in
     still-put m fine (fresh m k n t u) (or-false (nameInUse m n) _ (clear 11) .0)
+still-changed st fine (locate n) e clear =
+    let m = st .volatile in
+    still-put m fine (located m (st .position) n) (or-false (nameInUse m n) _ (clear 11) .0)
 still-changed st fine (link a b) e clear =
     let m = st .volatile in
     let there = or-false (absent m a) _ (or-false (absent m a || absent m b) _ (clear 7) .0) .0 in
@@ -172,8 +175,8 @@ still-read st fine (asks (change c)) b e clear = still-changed st fine c e clear
 still-read st fine (asks (list q)) b e clear = refl
 still-read st fine (asks lastError) b e clear = refl
 
--- every list of lines without an accepted KEN, RPA or DPA
-pub still-lines : (st : State) (cs : List Line) → steady st cs ≡ true → unmoved (afterLines st cs .volatile) ≡ unmoved (st .volatile)
-still-lines =
-    untaken-lines asksToEnable (λ st. unmoved (st .volatile)) (λ st n. refl)
+-- every list of lines and positions without an accepted KEN, RPA or DPA
+pub still-inputs : (st : State) (cs : List Input) → steady st cs ≡ true → unmoved (afterInputs st cs .volatile) ≡ unmoved (st .volatile)
+still-inputs =
+    untaken-inputs asksToEnable (λ st. unmoved (st .volatile)) (λ st n. refl) (λ st p. refl)
     (λ st line b w z e. still-read st (fine-of (st .volatile) (state-of st w .volatile)) (reading line) b e (clear-of st line b z))

@@ -6,17 +6,17 @@ use mathlib.Core.Bool.{true, not, _&&_}
 use lib.Dec.{eqb}
 use lib.ListN.{length, take, drop}
 use lib.Seq.{take-append-seam}
-use Rattle.model.specs.Types.{StoredState}
+use Rattle.model.specs.Types.{StoredState, Position}
 use Rattle.model.specs.Ascii.{ascii}
 use Rattle.model.specs.Limits.{bufferLimit}
 use Rattle.model.specs.Memory.{State}
 use Rattle.model.specs.Request.{reading}
 use Rattle.model.specs.Reply.{listing, everySystem, resultantLine}
-use Rattle.model.specs.Machine.{answered, stepped, restart, writeImage}
-use Rattle.model.specs.Trace.{Call, Line, called, afterCalls, afterLines}
+use Rattle.model.specs.Machine.{answered, stepped, restart, writeImage, positioned}
+use Rattle.model.specs.Trace.{Call, Input, called, afterCalls, afterInputs}
 use Rattle.model.specs.Demand.{Start, startState, asksToEnable, noneTaken, steady, Replies}
-use Rattle.model.specs.Stored.{holds, stateOf, viewOf, Answered, Restarted, ofOutcome, ofBegun, lineAnswer, imageAnswer, restartAnswer}
-use Rattle.model.specs.Histories.{Returned, ReturnedAlone, standsFor, standsAlone, LinePromise, RestartPromise, WritePromise, Begins, at-factory, at-image, Calls, Lines, steadyBy, Stands, KltPrints, StoredDemand3, StoredChecklist}
+use Rattle.model.specs.Stored.{holds, stateOf, viewOf, Answered, Restarted, ofOutcome, ofBegun, lineAnswer, imageAnswer, restartAnswer, positionAnswer}
+use Rattle.model.specs.Histories.{Returned, ReturnedAlone, standsFor, standsAlone, LinePromise, RestartPromise, WritePromise, Begins, at-factory, at-image, Calls, Inputs, steadyBy, Stands, KltPrints, StoredDemand3, StoredChecklist, PositionPromise}
 use Rattle.model.specs.Histories as stored
 use Rattle.model.proofs.Histories.Demand3.{demand-3}
 use Rattle.model.proofs.Histories.Checklist.{checklist}
@@ -48,6 +48,13 @@ module _ (s : StoredState) (st : State) (h : viewOf s ≡ holds st) where
   pub restart-state : (r : ReturnedAlone) → RestartPromise s r → viewOf (r .state) ≡ holds (restart st .state)
   restart-state r p = ap (λ (a : Restarted). a .state) (restart-promised r p)
 
+  pub position-promised : (p : Position) (r : ReturnedAlone) → PositionPromise s p r → standsAlone r ≡ ofBegun (positioned st p)
+  unfolding positionAnswer
+  position-promised p r q = q ∙ rw h
+
+  pub position-state : (p : Position) (r : ReturnedAlone) → PositionPromise s p r → viewOf (r .state) ≡ holds (positioned st p .state)
+  position-state p r q = ap (λ (a : Restarted). a .state) (position-promised p r q)
+
   pub write-promised : (b : List ℕ) (r : Returned) → WritePromise s b r → standsFor r ≡ ofOutcome (writeImage st b)
   unfolding imageAnswer
   write-promised b r p = p ∙ rw h
@@ -63,24 +70,26 @@ pub calls-held : {s s′ : StoredState} {cs : List Call} (st : State) → viewOf
 unfolding afterCalls called
 calls-held st h (stored.none s) = h
 calls-held st h (stored.then-line s s′ l b r cs p rest) = calls-held (stepped st l b .state) (line-state s st h l b r p) rest
+calls-held st h (stored.then-moved s s′ p r cs q rest) = calls-held (positioned st p .state) (position-state s st h p r q) rest
 calls-held st h (stored.then-restart s s′ r cs p rest) = calls-held (restart st .state) (restart-state s st h r p) rest
 
-pub lines-held : {s s′ : StoredState} {cs : List Line} {ns : List ℕ} (st : State) → viewOf s ≡ holds st → Lines s cs ns s′ → viewOf s′ ≡ holds (afterLines st cs)
-unfolding afterLines
-lines-held st h (stored.none s) = h
-lines-held st h (stored.then-line s s′ c r cs ns p rest) = lines-held (stepped st (c .bytes) (c .buffer) .state) (line-state s st h (c .bytes) (c .buffer) r p) rest
+pub inputs-held : {s s′ : StoredState} {cs : List Input} {ns : List ℕ} (st : State) → viewOf s ≡ holds st → Inputs s cs ns s′ → viewOf s′ ≡ holds (afterInputs st cs)
+unfolding afterInputs
+inputs-held st h (stored.none s) = h
+inputs-held st h (stored.then-line s s′ l b r cs ns p rest) = inputs-held (stepped st l b .state) (line-state s st h l b r p) rest
+inputs-held st h (stored.then-moved s s′ p r cs ns q rest) = inputs-held (positioned st p .state) (position-state s st h p r q) rest
 
 -- what the lines returned is what the machine judges
-pub lines-steady : {s s′ : StoredState} {cs : List Line} {ns : List ℕ} (st : State) → viewOf s ≡ holds st → Lines s cs ns s′ → steadyBy cs ns ≡ true → steady st cs ≡ true
+pub inputs-steady : {s s′ : StoredState} {cs : List Input} {ns : List ℕ} (st : State) → viewOf s ≡ holds st → Inputs s cs ns s′ → steadyBy cs ns ≡ true → steady st cs ≡ true
 unfolding noneTaken steadyBy
-lines-steady st h (stored.none s) e = refl
-lines-steady st h (stored.then-line s s′ c r cs ns p rest) e =
-    let o = stepped st (c .bytes) (c .buffer) in
-    let asks = asksToEnable (reading (c .bytes)) in
-    let n = line-number s st h (c .bytes) (c .buffer) r p in
+inputs-steady st h (stored.none s) e = refl
+inputs-steady st h (stored.then-line s s′ l b r cs ns p rest) e =
+    let asks = asksToEnable (reading l) in
+    let n = line-number s st h l b r p in
     let a = and-split (not (eqb (r .number) 0 && asks)) (steadyBy cs ns) e in
     and-join (ap (λ (k : ℕ). not (eqb k 0 && asks)) (sym n) ∙ a .0)
-    (lines-steady (o .state) (line-state s st h (c .bytes) (c .buffer) r p) rest (a .1))
+    (inputs-steady (stepped st l b .state) (line-state s st h l b r p) rest (a .1))
+inputs-steady st h (stored.then-moved s s′ p r cs ns q rest) e = inputs-steady (positioned st p .state) (position-state s st h p r q) rest e
 
 -- ---- a line that only the buffer can refuse
 
@@ -115,15 +124,15 @@ pub stored-demand-3 : StoredDemand3
 stored-demand-3 start first second numbers s₀ s s′ begun calls lines still =
     let st = afterCalls (startState start) first in
     let h = calls-held (startState start) (begins-held begun) calls in
-    let h′ = lines-held st h lines in
-    let d = demand-3 start first second (lines-steady st h lines still) in
+    let h′ = inputs-held st h lines in
+    let d = demand-3 start first second (inputs-steady st h lines still) in
     let e = view-is s st h .1 in
-    let e′ = view-is s′ (afterLines st second) h′ .1 in
+    let e′ = view-is s′ (afterInputs st second) h′ .1 in
     record {
       began = stands s st h;
-      ended = stands s′ (afterLines st second) h′;
+      ended = stands s′ (afterInputs st second) h′;
       after = rw (e, e′) d;
-      prints = klt-prints s′ (afterLines st second) h′ (table (afterLines st second)) (d .listed .shown) (ap table (sym e′));
+      prints = klt-prints s′ (afterInputs st second) h′ (table (afterInputs st second)) (d .listed .shown) (ap table (sym e′));
     }
 
 pub stored-checklist : StoredChecklist

@@ -11,8 +11,8 @@ use Rattle.model.specs.Limits.{bufferLimit}
 use Rattle.model.specs.Memory.{Memory, State, started}
 use Rattle.model.specs.WellFormed.{wellFormed}
 use Rattle.model.specs.Refusals.{short}
-use Rattle.model.specs.Machine.{Begun, began, stepped, restart, startImage}
-use Rattle.model.specs.Trace.{Call, line, restarting, called, afterCalls, afterLines}
+use Rattle.model.specs.Machine.{Begun, began, stepped, restart, startImage, positioned}
+use Rattle.model.specs.Trace.{Call, line, restarting, called, afterCalls, afterInputs, moved, entering}
 use Rattle.model.specs.Demand.{Start, factory-start, image-start, startState}
 use Rattle.model.specs.Stored.{holds, stateOf, viewOf, memoryOf, Answered, ofOutcome, ofBegun}
 use Rattle.model.specs.Histories.{Returned, ReturnedAlone, standsAlone, RestartPromise, WritePromise, ImagePromise, Calls}
@@ -23,9 +23,9 @@ use Rattle.model.proofs.Views.{view-holds, view-is}
 use Rattle.model.proofs.Ladder.Refusing.{restart-fine, image-short, image-fine}
 use Rattle.model.proofs.Ladder.Exact.{start-some}
 use Rattle.model.proofs.Histories.Kept.{well-formed-kept}
-use Rattle.model.proofs.Edits.Saving.{line-permanent, restart-permanent}
+use Rattle.model.proofs.Edits.Saving.{line-permanent, restart-permanent, position-permanent}
 use Rattle.model.proofs.Histories.Saved.{lists-alike, image-back}
-use Rattle.model.proofs.Histories.Stored.{line-promised, line-state, line-number, restart-promised, restart-state, write-promised, begins-held, calls-held}
+use Rattle.model.proofs.Histories.Stored.{line-promised, line-state, line-number, restart-promised, restart-state, write-promised, begins-held, calls-held, position-state}
 
 -- ---- the walk finds the last accepted WPA
 
@@ -50,7 +50,8 @@ finds-the-last start calls = saved-last (startMemory start) (startState start) c
 
 pub call-permanent : (st : State) (c : Call) → called st c .permanent ≡ cond (saves st c) (st .volatile) (st .permanent)
 unfolding called saves
-call-permanent st (line bytes b) = line-permanent st bytes b
+call-permanent st (entering (line bytes b)) = line-permanent st bytes b
+call-permanent st (entering (moved p)) = position-permanent st p
 call-permanent st restarting = restart-permanent st
 
 calls-permanent : (m : Memory) (st : State) (cs : List Call) → st .permanent ≡ m → afterCalls st cs .permanent ≡ savedAfter m st cs
@@ -82,7 +83,7 @@ module _ (st : State) (w : wellFormed st ≡ true) where
       }
 
 pub power-switch : PowerSwitch
-unfolding afterLines
+unfolding afterInputs
 power-switch start calls =
     let st = afterCalls (startState start) calls in
     let e = calls-permanent (startMemory start) (startState start) calls (start-permanent start) in
@@ -98,6 +99,7 @@ walks-alike m st e (stored.then-line s s′ l b r cs p rest) =
     let n = line-number s st e l b r p in
     let v : memoryOf (s .volatile) ≡ st .volatile = ap (λ (t : State). t .volatile) (view-is s st e .1) in
     rw (n, v) (walks-alike _ (stepped st l b .state) (line-state s st e l b r p) rest)
+walks-alike m st e (stored.then-moved s s′ p r cs q rest) = walks-alike m (positioned st p .state) (position-state s st e p r q) rest
 walks-alike m st e (stored.then-restart s s′ r cs p rest) = walks-alike m (restart st .state) (restart-state s st e r p) rest
 
 -- a stored state that stands for one of the machine has what that one has

@@ -9,7 +9,7 @@ use Rattle.model.specs.Memory.{Memory, State}
 use Rattle.model.specs.Use.{nameInUse}
 use Rattle.model.specs.Words.{reserved}
 use Rattle.model.specs.WellFormed.{wellFormed}
-use Rattle.model.specs.Request.{Change, reading, asks, change, define, link, copy, remove, enable, setLevel, save, restore, reset}
+use Rattle.model.specs.Request.{Change, reading, asks, change, define, link, copy, remove, enable, setLevel, save, restore, reset, locate}
 use Rattle.model.specs.Refusals.{Rung, refusal, ladder, readingLadder, requestLadder, changeLadder}
 use Rattle.model.specs.Machine.{stepped}
 use Rattle.model.specs.Claims.{applies}
@@ -32,6 +32,7 @@ touched-eleven : (st : State) (n : List ℕ) → nameInUse (st .volatile) n ≡ 
     applies 11 (changeLadder st (st .volatile) c) ≡ true
 unfolding touches applies any changeLadder
 touched-eleven st n u (define k d t v) e = or-left (nameInUse (st .volatile) d) _ (ap (nameInUse (st .volatile)) (same→≡ d n e) ∙ u)
+touched-eleven st n u (locate d) e = or-left (nameInUse (st .volatile) d) _ (ap (nameInUse (st .volatile)) (same→≡ d n e) ∙ u)
 touched-eleven st n u (link d b) e = or-left (nameInUse (st .volatile) d) _ (ap (nameInUse (st .volatile)) (same→≡ d n e) ∙ u)
 touched-eleven st n u (copy s d) e = or-left (nameInUse (st .volatile) d) _ (ap (nameInUse (st .volatile)) (same→≡ d n e) ∙ u)
 touched-eleven st n u (remove d) e = or-left (nameInUse (st .volatile) d) _ (ap (nameInUse (st .volatile)) (same→≡ d n e) ∙ u)

@@ -1,6 +1,7 @@
 -- The saved image (specs/Image.antt): what a well-formed memory writes is read back, and nothing else is accepted.
 use Prim.Native.Nat.{ℕ, zero, suc, _+_, _≤_}
 use mathlib.Core.Path.{_≡_, refl, sym, ap, _∙_}
+use mathlib.Core.Logic.{⊎-elim}
 use mathlib.Core.List.{List, [], _∷_, _++_, map, append-assoc, append-nil}
 use mathlib.Core.Bool.{true, _&&_}
 use mathlib.Core.Option.{Option, none, some}
@@ -8,14 +9,14 @@ use native.Mathlib.Omega.{arith}
 use lib.Dec.{eqb, leb}
 use lib.ListN.{length, getD}
 use borrow.Author.Tests.{le-leb, eqb-true}
-use Rattle.model.specs.Types.{Kind, Ksd, Kst, Ksw, Ksb, Kld, Enabled, OperatingPart, Single, Pair}
+use Rattle.model.specs.Types.{Kind, Ksd, Kst, Ksw, Ksb, Kld, Ksf, Enabled, OperatingPart, Single, Pair}
 use Rattle.model.specs.Lists.{all, joined, table, none?}
 use Rattle.model.specs.Limits.{maxSystems}
 use Rattle.model.specs.Memory.{System, Memory}
 use Rattle.model.specs.WellFormed.{isKind, systemFine, operatingFine, enabledFine, memoryFine}
 use Rattle.model.specs.Image.{edition, whole, numbers, systemBytes, enabledBytes, image, give, upTo, several, mostByte, readSystem, readSystems, enabledFrom, readEnabled, readContents, readMemory, whollyRead, accepted}
 use Rattle.model.specs.ImageClaims.{ReadsBack, AcceptedExactly, OneMemory}
-use Rattle.model.proofs.Basics.{true-false, none-some, and-split}
+use Rattle.model.proofs.Basics.{true-false, none-some, and-split, or-split}
 use Rattle.model.proofs.Image.Readers.{then, gave, one-read, passed, chosen}
 use Rattle.model.proofs.Image.Limits.{place-within, parts}
 use Rattle.model.proofs.Image.Numbers.{up-to-whole, whole-up-to}
@@ -43,7 +44,7 @@ module _ (l : List System) (h : length l ≤ maxSystems) where
   part-read (Single p) r v rest e hr hv =
       rw (numbers-first 0 (p ∷ r ∷ v ∷ []) rest)
       (then (upTo 1) _ _ (up-to-whole 1 0 (numbers (p ∷ r ∷ v ∷ []) ++ rest) (omega arith))
-      ∙ then (several 3 mostByte) _ _ (read-three mostByte rest (small Ksd p e) hr hv))
+      ∙ then (several 3 mostByte) _ _ (read-three mostByte rest (⊎-elim (small Ksd p) (small Ksf p) (or-split (isKind l Ksd p) (isKind l Ksf p) e)) hr hv))
   part-read (Pair w t) r v rest e hr hv =
       let f = and-split (isKind l Ksw w) (isKind l Kst t) (and-split _ _ e .0) in
       rw (numbers-first 1 (w ∷ t ∷ r ∷ v ∷ []) rest)

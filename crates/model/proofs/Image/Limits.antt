@@ -9,7 +9,7 @@ use lib.Dec.{eqb}
 use lib.IntN.{ℤ, pos, negsuc}
 use lib.ListN.{length, length-append}
 use borrow.Author.Tests.{leb-true, eqb-true}
-use Rattle.model.specs.Types.{Kind, Ksd, Kst, Ksw, Ksb, Kld, Enabled, OperatingPart, Single, Pair}
+use Rattle.model.specs.Types.{Kind, Ksd, Kst, Ksw, Ksb, Kld, Ksf, Enabled, OperatingPart, Single, Pair}
 use Rattle.model.specs.Lists.{all, joined}
 use Rattle.model.specs.Limits.{maxSystems, nameLimit, offsetLimit, mostTurns}
 use Rattle.model.specs.Kinds.{ofKind}
@@ -81,12 +81,13 @@ parts m e =
 
 -- ---- lengths
 
-pub code-within : (k : Kind) → ofKind k .code ≤ 5
+pub code-within : (k : Kind) → ofKind k .code ≤ 6
 code-within Ksd = omega arith
 code-within Kst = omega arith
 code-within Ksw = omega arith
 code-within Ksb = omega arith
 code-within Kld = omega arith
+code-within Ksf = omega arith
 
 pub one-group : (n : ℕ) → n < 128 → length (whole n) ≤ 1
 one-group n h = length-whole 0 n h
@@ -126,7 +127,9 @@ length-place l k p h e = one-group p (omega (arith, place-within l k p e))
 
 length-part : (l : List System) (o : OperatingPart) (r v : ℕ) → length l ≤ maxSystems → operatingFine l o ≡ true → length (numbers (partNumbers o ++ (r ∷ v ∷ []))) ≤ 3 + length (whole r) + length (whole v)
 unfolding operatingFine numbers joined
-length-part l (Single p) r v h e = simp length-append (omega (arith, length-place l Ksd p h e, one-group 0 (omega arith)))
+length-part l (Single p) r v h e =
+    let place = ⊎-elim (length-place l Ksd p h) (length-place l Ksf p h) (or-split (isKind l Ksd p) (isKind l Ksf p) e) in
+    simp length-append (omega (arith, place, one-group 0 (omega arith)))
 length-part l (Pair w t) r v h e =
     let f = and-split (isKind l Ksw w) (isKind l Kst t) (and-split _ _ e .0) in
     simp length-append (omega (arith, length-place l Ksw w h (f .0), length-place l Kst t h (f .1), one-group 1 (omega arith)))

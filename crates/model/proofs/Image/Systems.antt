@@ -12,7 +12,7 @@ use lib.IntN.{ℤ, pos, negsuc}
 use lib.ListN.{length, take, drop, getD, length-append, take-append-drop}
 use lib.Seq.{length-take-le, take-append-seam, drop-append-seam}
 use borrow.Author.Tests.{le-leb, leb-true, eqb-true, eqb-false}
-use Rattle.model.specs.Types.{Kind, Ksd, Kst, Ksw, Ksb, Kld}
+use Rattle.model.specs.Types.{Kind, Ksd, Kst, Ksw, Ksb, Kld, Ksf}
 use Rattle.model.specs.Lists.{joined, table}
 use Rattle.model.specs.Limits.{maxSystems, nameLimit}
 use Rattle.model.specs.Kinds.{kinds, ofKind}
@@ -53,6 +53,7 @@ kind-code Kst = refl
 kind-code Ksw = refl
 kind-code Ksb = refl
 kind-code Kld = refl
+kind-code Ksf = refl
 
 kind-told : (ks : List Kind) (c : ℕ) (k : Kind) → kindOf ks c ≡ some k → ofKind k .code ≡ c
 unfolding kindOf

@@ -15,7 +15,7 @@ use Rattle.model.specs.Machine.{Outcome, began, stepped, startFactory, s
 use Rattle.model.specs.Claims.{applies, FirstToApply, NumberExact, OtherNumbersExact}
 use Rattle.model.proofs.Basics.{either}
 use Rattle.model.proofs.Ladder.First.{once, clear, ladder-ordered, first-applies, first-only, first-zero, of-line-low}
-use Rattle.model.proofs.Ladder.Refusing.{step-ill, step-number, refusal-of-line, restart-ill, restart-fine, image-ill, image-short, image-fine}
+use Rattle.model.proofs.Ladder.Refusing.{step-ill, step-number, refusal-of-line, restart-ill, restart-fine, image-ill, image-short, image-fine, position-ill, position-beyond, position-taken}
 
 -- ---- a line
 
@@ -81,6 +81,9 @@ other-numbers-exact =
       image-taken = image-fine;
       start-refused = start-none;
       start-taken = start-some;
+      position-one = position-ill;
+      position-six = position-beyond;
+      position-taken = position-taken;
       use-one = use-ill;
       use-taken = use-fine;
     }

@@ -11,7 +11,7 @@ use lib.Dec.{eqb, leb}
 use lib.ListN.{drop}
 use Rattle.model.specs.Lists.{all, any}
 use Rattle.model.specs.Memory.{Memory, State}
-use Rattle.model.specs.Request.{Change, Query, Reading, reading, unknown, malformed, beyond, asks, change, list, lastError, define, link, copy, remove, enable, setLevel, save, restore, reset, enabledOnes, systemsAll, links, resultants, resultantOf, resultantIn}
+use Rattle.model.specs.Request.{Change, Query, Reading, reading, unknown, malformed, beyond, asks, change, list, lastError, define, link, copy, remove, enable, setLevel, save, restore, reset, enabledOnes, systemsAll, links, resultants, resultantOf, resultantIn, locate}
 use Rattle.model.specs.Refusals.{precedence, ofLine?, Rung, first, short, unreadable, refusal, changeLadder, queryLadder, requestLadder, readingLadder, ladder}
 use Rattle.model.proofs.Basics.{and-split, and-false, or-split, or-left, or-right, or-false, either, true-false}
 use Rattle.model.specs.Claims.{applies, before, triedBefore, FirstToApply, inOrder, noneTwice}
@@ -266,6 +266,7 @@ Later rs = inOrder (drop 2 precedence) rs ≡ true
 change-ordered : (st : State) (m : Memory) (c : Change) → Later (changeLadder st m c)
 unfolding changeLadder inOrder
 change-ordered st m (define k n t u) = refl
+change-ordered st m (locate n) = refl
 change-ordered st m (link a b) = refl
 change-ordered st m (copy s d) = refl
 change-ordered st m (remove a) = refl

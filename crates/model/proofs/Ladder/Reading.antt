@@ -16,9 +16,9 @@ use Rattle.model.specs.Ascii.{ascii}
 use Rattle.model.specs.Lists.{all, between, there?, same, none?}
 use Rattle.model.specs.Limits.{quarterTurn}
 use Rattle.model.specs.Kinds.{ofKind}
-use Rattle.model.specs.Words.{words, legalName, number, angle?, quarters}
-use Rattle.model.specs.WellFormed.{offsetsFine, turnsFine, noOffset}
-use Rattle.model.specs.Request.{Change, Query, Reading, Command, Values, reading, unknown, malformed, beyond, asks, change, list, lastError, define, link, copy, remove, enable, setLevel, save, restore, reset, enabledOnes, systemsAll, links, resultants, resultantOf, resultantIn, axis, firstAxis, mayCome, pairs, noValues, given, inRange, offsetsOf, turnsOf, definition, names?, word, oneName, twoNames, sameWords, fixedWords, levelWords, resultantWords, definitions, edits, settings, queries, commands, readBy, readWords}
+use Rattle.model.specs.Words.{words, legalName, number, offsetsFine, angle?, quarters}
+use Rattle.model.specs.WellFormed.{turnsFine, noOffset}
+use Rattle.model.specs.Request.{Change, Query, Reading, Command, Values, reading, unknown, malformed, beyond, asks, change, list, lastError, define, link, copy, remove, enable, setLevel, save, restore, reset, enabledOnes, systemsAll, links, resultants, resultantOf, resultantIn, axis, firstAxis, mayCome, pairs, noValues, given, inRange, offsetsOf, turnsOf, definition, names?, word, oneName, twoNames, sameWords, fixedWords, levelWords, resultantWords, definitions, edits, settings, queries, commands, readBy, readWords, locate}
 use Rattle.model.specs.Claims.{LegalDefinition, AsksNothingIllegal}
 use Rattle.model.proofs.Basics.{and-split, and-join, or-left, or-right, either, all-at, none-some}
 
@@ -29,6 +29,7 @@ definitionLegal k n t u = legalName n && offsetsFine t && turnsFine u && (not (o
 
 unfoldable pub changeLegal : Change → Bool
 changeLegal (define k n t u) = definitionLegal k n t u
+changeLegal (locate n) = legalName n
 changeLegal (link a b) = legalName a && legalName b
 changeLegal (copy s d) = legalName s && legalName d
 changeLegal (remove a) = legalName a
@@ -205,9 +206,10 @@ reads-append done r = r
 reads-append (more f q) r = more f (reads-append q r)
 
 definitions-read : Reads definitions
-unfolding definitions
+unfolding definitions legal changeLegal
 definitions-read =
-    more (definition-legal Ksd) (more (definition-legal Kst) (more (definition-legal Ksw) (more (definition-legal Ksb) (more (definition-legal Kld) done))))
+    more (definition-legal Ksd) (more (definition-legal Kst) (more (definition-legal Ksw) (more (definition-legal Ksb) (more (definition-legal Kld)
+    (more (one-legal (λ a. asks (change (locate a))) (λ a h. h)) done)))))
 
 edits-read : Reads edits
 unfolding edits legal changeLegal
@@ -276,6 +278,7 @@ unfolding changeLegal
 asks-nothing-illegal =
     record {
       definitions = λ line k n t u e. definition-parts k n t u (asked-legal line (define k n t u) e);
+      locations = λ line n e. asked-legal line (locate n) e;
       copies = λ line s d e. and-split (legalName s) (legalName d) (asked-legal line (copy s d) e) .1;
       levels = λ line n e. leb-true n 1 (asked-legal line (setLevel n) e);
     }

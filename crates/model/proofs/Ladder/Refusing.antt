@@ -7,14 +7,16 @@ use mathlib.Core.Logic.{⊎-elim}
 use native.Mathlib.Omega.{arith}
 use borrow.Author.Tests.{eq-eqb, eqb-true, eqb-false}
 use lib.Dec.{eqb}
+use Rattle.model.specs.Types.{Position}
+use Rattle.model.specs.Stage.{positionFine}
 use Rattle.model.specs.Memory.{State, restarted}
 use Rattle.model.specs.WellFormed.{wellFormed}
 use Rattle.model.specs.Refusals.{ofLine?, refusal, ladder, short}
-use Rattle.model.specs.Effects.{withError, next}
+use Rattle.model.specs.Effects.{withError, next, withPosition}
 use Rattle.model.specs.Request.{Reading, reading, unknown, malformed, beyond, asks}
 use Rattle.model.specs.Reply.{reply}
 use Rattle.model.specs.Image.{image}
-use Rattle.model.specs.Machine.{Outcome, Begun, refused, answered, began, carriedOut, judged, stepped, restart, writeImage}
+use Rattle.model.specs.Machine.{Outcome, Begun, refused, answered, began, carriedOut, judged, stepped, restart, writeImage, positioned}
 use Rattle.model.specs.Claims.{Untouched, RefusalsChangeNothing}
 use Rattle.model.proofs.Basics.{either}
 use Rattle.model.proofs.Ladder.First.{ladder-ordered, first-of-line, of-line-low}
@@ -96,7 +98,7 @@ module _ (st : State) (line b : List ℕ) where
       (λ w e z. absurd (z (carried-number st (reading line) b)))
     where
       left : (error n : ℕ) → Untouched st b (refused (withError st error) n b)
-      left error n = record { volatile = refl; permanent = refl; level = refl; buffer = refl; count = refl }
+      left error n = record { volatile = refl; permanent = refl; position = refl; level = refl; buffer = refl; count = refl }
 
   line-one : stepped st line b .number ≡ 1 → stepped st line b .state ≡ st
   line-one =
@@ -127,6 +129,30 @@ module _ (st : State) where
   restart-untouched z =
       ⊎-elim (λ w. absurd (z (ap (λ (o : Begun). o .number) (restart-fine w)))) (λ w. ap (λ (o : Begun). o .state) (restart-ill w)) (either (wellFormed st))
 
+  module _ (p : Position) where
+    pub position-ill : wellFormed st ≡ false → positioned st p ≡ began st 1
+    unfolding positioned
+    position-ill w = rw (w, positioned)
+
+    pub position-beyond : wellFormed st ≡ true → positionFine p ≡ false → positioned st p ≡ began st 6
+    unfolding positioned
+    position-beyond w f = rw (w, positioned) (rw f)
+
+    pub position-taken : wellFormed st ≡ true → positionFine p ≡ true → positioned st p ≡ began (withPosition st p) 0
+    unfolding positioned
+    position-taken w f = rw (w, positioned) (rw f)
+
+    -- the three ways that a position can go
+    pub position-case : (P : Begun → Type 0) →
+        (wellFormed st ≡ false → P (began st 1)) →
+        P (began st 6) →
+        (wellFormed st ≡ true → positionFine p ≡ true → P (began (withPosition st p) 0)) →
+        P (positioned st p)
+    position-case P ill past take =
+        ⊎-elim (λ w. ⊎-elim (λ f. rw (position-taken w f) (take w f)) (λ f. rw (position-beyond w f) past) (either (positionFine p)))
+        (λ w. rw (position-ill w) (ill w))
+        (either (wellFormed st))
+
   module _ (b : List ℕ) where
     pub image-ill : wellFormed st ≡ false → writeImage st b ≡ refused st 1 b
     unfolding writeImage
@@ -153,6 +179,7 @@ refusals-change-nothing =
       one = line-one;
       others = line-others;
       restarts = restart-untouched;
+      positions = λ st p. position-case st p (λ o. (o .number ≡ 0 → ⊥) → o .state ≡ st) (λ w z. refl) (λ z. refl) (λ w f z. absurd (z refl));
       images = λ st b. image-case st b (λ o. (o .number ≡ 0 → ⊥) → o ≡ refused st (o .number) b) (λ z. refl) (λ z. refl) (λ z. absurd (z refl));
       image-keeps = λ st b. image-case st b (λ o. o .state ≡ st) refl refl refl;
     }

@@ -9,21 +9,22 @@ use native.Mathlib.Decide.{decLt}
 use borrow.Author.Tests.{eqb-true, leb-true, ltb-true, eq-eqb, le-leb, lt-ltb, not-true}
 use lib.Dec.{eqb, leb, ltb}
 use lib.ListN.{length, getD, List·getD-eq-default}
-use Rattle.model.specs.Types.{Kind, Ksd, Kst, Ksw, Ksb, Kld, Group, Operating, Orientational, Levelling, Vec3, Turns, Enabled, OperatingPart, Single, Pair}
+use Rattle.model.specs.Types.{Kind, Ksd, Kst, Ksw, Ksb, Kld, Ksf, Group, Operating, Orientational, Levelling, Vec3, Turns, Enabled, OperatingPart, Single, Pair}
 use Rattle.model.specs.Lists.{all, any, same}
 use Rattle.model.specs.Limits.{maxSystems, mostTurns}
 use Rattle.model.specs.Kinds.{ofKind, sameKind, ofGroup, sameGroup}
 use Rattle.model.specs.Memory.{System, Memory, State, systemAt, blank}
 use Rattle.model.specs.Chain.{noRing}
-use Rattle.model.specs.Words.{legalName, reserved, offset?}
-use Rattle.model.specs.WellFormed.{isKind, offsetsFine, noOffset, turnsFine, ownFine, systemFine, namesDiffer, operatingFine, enabledFine, memoryFine, wellFormed}
+use Rattle.model.specs.Words.{legalName, reserved, offset?, offsetsFine}
+use Rattle.model.specs.Stage.{positionFine}
+use Rattle.model.specs.WellFormed.{isKind, noOffset, turnsFine, ownFine, systemFine, namesDiffer, operatingFine, enabledFine, memoryFine, wellFormed}
 use Rattle.model.specs.Refusals.{ofLine?}
 use Rattle.model.proofs.Basics.{and-split, and-join, or-split, or-left, or-right, either, true-false, all-at, all-from, any-none, any-where, same→≡, ≡→same}
 
 -- ---- types by their codes
 
 by-code : ℕ → Kind
-by-code c = cond (eqb c 1) Ksd (cond (eqb c 2) Kst (cond (eqb c 3) Ksw (cond (eqb c 4) Ksb Kld)))
+by-code c = cond (eqb c 1) Ksd (cond (eqb c 2) Kst (cond (eqb c 3) Ksw (cond (eqb c 4) Ksb (cond (eqb c 5) Kld Ksf))))
 
 by-code-is : (k : Kind) → by-code (ofKind k .code) ≡ k
 unfolding by-code
@@ -32,6 +33,7 @@ by-code-is Kst = refl
 by-code-is Ksw = refl
 by-code-is Ksb = refl
 by-code-is Kld = refl
+by-code-is Ksf = refl
 
 pub same-kind : (j k : Kind) → sameKind j k ≡ true → j ≡ k
 same-kind j k e = sym (by-code-is j) ∙ ap by-code (eqb-true (ofKind j .code) (ofKind k .code) e) ∙ by-code-is k
@@ -136,7 +138,7 @@ pub turns-from : (t : Turns) → Quartered t → turnsFine t ≡ true
 turns-from t q = and-join (and-join (le-leb (t .u) mostTurns (q .u)) (le-leb (t .v) mostTurns (q .v))) (le-leb (t .w) mostTurns (q .w))
 
 abbrev pub PartPlaced : List System → OperatingPart → Type 0
-PartPlaced l (Single p) = Placed l Ksd p
+PartPlaced l (Single p) = Placed l Ksd p ⊎ Placed l Ksf p
 PartPlaced l (Pair w t) = Placed l Ksw w × Placed l Kst t × (0 < w + t)
 
 pub record EnabledPlaced (l : List System) (e : Enabled) : Type 0 where
@@ -244,7 +246,7 @@ module _ (l : List System) where
 
   part-of : (o : OperatingPart) → operatingFine l o ≡ true → PartPlaced l o
   unfolding operatingFine
-  part-of (Single p) e = placed-of l Ksd p e
+  part-of (Single p) e = ⊎-elim (λ h. inl (placed-of l Ksd p h)) (λ h. inr (placed-of l Ksf p h)) (or-split (isKind l Ksd p) (isKind l Ksf p) e)
   part-of (Pair w t) e =
       let a = and-split (isKind l Ksw w && isKind l Kst t) (ltb 0 w || ltb 0 t) e in
       let b = and-split (isKind l Ksw w) (isKind l Kst t) (a .0) in (
@@ -255,7 +257,8 @@ module _ (l : List System) where
 
   part-from : (o : OperatingPart) → PartPlaced l o → operatingFine l o ≡ true
   unfolding operatingFine
-  part-from (Single p) f = placed-from l Ksd p f
+  part-from (Single p) f =
+      ⊎-elim (λ h. or-left (isKind l Ksd p) (isKind l Ksf p) (placed-from l Ksd p h)) (λ h. or-right (isKind l Ksd p) (isKind l Ksf p) (placed-from l Ksf p h)) f
   part-from (Pair w t) f = and-join (and-join (placed-from l Ksw w (f .0)) (placed-from l Kst t (f .1))) (go (decLt 0 w))
     where
       go : Dec (0 < w) → ltb 0 w || ltb 0 t ≡ true
@@ -311,16 +314,18 @@ pub record FineState (st : State) : Type 0 where
   pub permanent : memoryFine (st .permanent) ≡ true
   pub level : st .level ≤ 1
   pub error : errorFine (st .error) ≡ true
+  pub position : positionFine (st .position) ≡ true
 
 module _ (st : State) where
   pub state-of : wellFormed st ≡ true → FineState st
   unfolding wellFormed
   state-of w =
-      let a = and-split (memoryFine (st .volatile) && memoryFine (st .permanent) && leb (st .level) 1) (errorFine (st .error)) w in
+      let p = and-split (memoryFine (st .volatile) && memoryFine (st .permanent) && leb (st .level) 1 && errorFine (st .error)) (positionFine (st .position)) w in
+      let a = and-split (memoryFine (st .volatile) && memoryFine (st .permanent) && leb (st .level) 1) (errorFine (st .error)) (p .0) in
       let b = and-split (memoryFine (st .volatile) && memoryFine (st .permanent)) (leb (st .level) 1) (a .0) in
       let c = and-split (memoryFine (st .volatile)) (memoryFine (st .permanent)) (b .0) in
-      record { volatile = c .0; permanent = c .1; level = leb-true (st .level) 1 (b .1); error = a .1 }
+      record { volatile = c .0; permanent = c .1; level = leb-true (st .level) 1 (b .1); error = a .1; position = p .1 }
 
   pub state-from : FineState st → wellFormed st ≡ true
   unfolding wellFormed
-  state-from f = and-join (and-join (and-join (f .volatile) (f .permanent)) (le-leb (st .level) 1 (f .level))) (f .error)
+  state-from f = and-join (and-join (and-join (and-join (f .volatile) (f .permanent)) (le-leb (st .level) 1 (f .level))) (f .error)) (f .position)

@@ -10,7 +10,7 @@ use Rattle.model.specs.Pose.{Pose, coord, turned, plus, minus, origin, p
 use Rattle.model.specs.Memory.{System, systemAt}
 use Rattle.model.specs.Chain.{predOf, hop, steps, ownPose, poseOver, resultant}
 use Rattle.model.specs.Words.{offset?}
-use Rattle.model.specs.WellFormed.{offsetsFine}
+use Rattle.model.specs.Words.{offsetsFine}
 use Rattle.model.specs.Arithmetic.{Alike, Named, FollowingOn, OneInverse, Showing, Regrouping, Arithmetic}
 use Rattle.model.proofs.Chains.Hops.{ring-free}
 use Rattle.model.proofs.Chains.Steps.{Ends, steps-hop}

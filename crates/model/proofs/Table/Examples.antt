@@ -15,6 +15,7 @@ use Rattle.model.specs.Examples.Relative.{OfRelative}
 use Rattle.model.specs.Examples.LongBench.{OfLongBench}
 use Rattle.model.specs.Examples.NextStart.{OfNextStart}
 use Rattle.model.specs.Examples.Tally.{OfTally}
+use Rattle.model.specs.Examples.Stage.{OfStage}
 use Rattle.model.specs.Examples.Bench.{OfBench}
 use Rattle.model.specs.Demand.{changesEnabled, asksToEnable, noneTaken, held, heldPart, frames}
 use Rattle.model.specs.Histories.{steadyBy}
@@ -22,7 +23,7 @@ use Rattle.model.specs.Checklist.{asksToSave, underEnabled}
 use Rattle.model.specs.NextStart.{neverSavedInUse}
 use Rattle.model.specs.PowerSwitch.{saves}
 use Rattle.model.specs.LongBench.{systemWithin, memoryWithin}
-use Rattle.model.specs.Reasons.{reason}
+use Rattle.model.specs.Reasons.{laterReason, reason}
 use Rattle.model.specs.Bench.{storedActs, acted, ksbench, gathered, byteOf, poweredOn, fileAfter}
 use Rattle.model.proofs.Open.{definitions-open}
 
@@ -78,6 +79,7 @@ of-numbers = record {
   one-image = refl;
   one-use = refl;
   last-errors = refl;
+  last-fifteen = refl;
   last-twenty = refl;
   two = refl;
   two-image = refl;
@@ -151,8 +153,13 @@ of-tally : OfTally
 unfolding sessions-open
 of-tally = record { counted = refl; none-accepted = refl; none-refused = refl; nothing = refl; not-occurred = refl; full = refl; stays = refl; most = refl; printed = refl }
 
+of-stage : OfStage
+unfolding sessions-open
+of-stage =
+    record { here = refl; halves = refl; kept = refl; range = refl; one = refl; one-position = refl; one-line = refl; one-restart = refl; numbers = refl; full = refl; as-others = refl; steady-moved = refl; steady-not = refl }
+
 of-bench : OfBench
-unfolding sessions-open asksToSave saves reason storedActs acted ksbench gathered byteOf poweredOn fileAfter
+unfolding sessions-open asksToSave saves laterReason reason storedActs acted ksbench gathered byteOf poweredOn fileAfter
 of-bench =
     record {
       at-terminal = refl;
@@ -174,9 +181,10 @@ of-bench =
       eleven = refl;
       twelve = refl;
       thirteen = refl;
+      fifteen = refl;
       twenty = refl;
     }
 
 pub examples : Examples
 examples =
-    record { memories = of-memories; poses = of-poses; lines = of-lines; commands = of-commands; lists = of-lists; numbers = of-numbers; images = of-images; histories = of-histories; storage = of-storage; in-use = of-use; relative = of-relative; long-bench = of-long-bench; next-start = of-next-start; tally = of-tally; bench = of-bench }
+    record { memories = of-memories; poses = of-poses; lines = of-lines; commands = of-commands; lists = of-lists; numbers = of-numbers; images = of-images; histories = of-histories; storage = of-storage; in-use = of-use; relative = of-relative; long-bench = of-long-bench; next-start = of-next-start; tally = of-tally; stage = of-stage; bench = of-bench }

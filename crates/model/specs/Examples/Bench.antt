@@ -44,4 +44,5 @@ pub record OfBench : Type 0 where
   pub eleven : reasonLine 11 ≡ ascii "11: in use: it is enabled, or an enabled system hangs on it\n"
   pub twelve : reasonLine 12 ≡ ascii "12: ring: a system would hang on itself\n"
   pub thirteen : reasonLine 13 ≡ ascii "13: full: there are 16 systems already\n"
+  pub fifteen : reasonLine 15 ≡ ascii "15: turned: the platform's U, V and W are not all zero\n"
   pub twenty : reasonLine 20 ≡ ascii "20: needed: it was saved in use, and the next start has it so; WPA SKS once it is out of use frees it\n"

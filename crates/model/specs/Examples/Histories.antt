@@ -4,20 +4,20 @@ use mathlib.Core.Path.{_≡_}
 use Rattle.model.specs.Base.{ℕ, List, [], _∷_, map, true, false}
 use Rattle.model.specs.Ascii.{ascii}
 use Rattle.model.specs.Machine.{startFactory}
-use Rattle.model.specs.Trace.{Line, ksrun}
+use Rattle.model.specs.Trace.{Input, line, ksrun}
 use Rattle.model.specs.Demand.{steady}
 use Rattle.model.specs.Histories.{steadyBy}
 use Rattle.model.specs.Sessions.{replies, taken, number, hex, lent, _⇒_, restarts, writes, starts, Session}
 
 -- lines of a second list
-abbrev pub linesOf : List String → List Line
-linesOf ts = map (λ (t : String). record { bytes = ascii t; buffer = lent 4096 }) ts
+abbrev pub linesOf : List String → List Input
+linesOf ts = map (λ (t : String). line (ascii t) (lent 4096)) ts
 
 -- without an accepted KEN, RPA or DPA, and with one
-abbrev pub holdingStill : List Line
+abbrev pub holdingStill : List Input
 holdingStill = linesOf ("KSD A" ∷ "KEN B" ∷ "RPA SKS" ∷ "KEN?" ∷ [])
 
-abbrev pub enablingA : List Line
+abbrev pub enablingA : List Input
 enablingA = linesOf ("KSD A" ∷ "KEN A" ∷ [])
 
 -- V, W on V, and T, with W and T enabled: the image, and what KEN? and KLN? show

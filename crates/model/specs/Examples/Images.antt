@@ -33,7 +33,7 @@ pub record OfImages : Type 0 where
   pub refused-systems : Session (
       starts (hex "01 01 01 01 41 00 00 00 00 00 00 00 00 01 00 00") 0
       -- the type
-      ∷ starts (hex "01 01 00 01 41 00 00 00 00 00 00 00 00 01 00 00") 14 ∷ starts (hex "01 01 06 01 41 00 00 00 00 00 00 00 00 01 00 00") 14
+      ∷ starts (hex "01 01 00 01 41 00 00 00 00 00 00 00 00 01 00 00") 14 ∷ starts (hex "01 01 07 01 41 00 00 00 00 00 00 00 00 01 00 00") 14
       -- the name: in small letters, none, reserved
       ∷ starts (hex "01 01 01 01 61 00 00 00 00 00 00 00 00 01 00 00") 14 ∷ starts (hex "01 01 01 00 00 00 00 00 00 00 00 00 01 00 00") 14
       ∷ starts (hex "01 01 01 04 5A 45 52 4F 00 00 00 00 00 00 00 00 01 00 00") 14

@@ -3,7 +3,7 @@ use mathlib.Core.Path.{_≡_}
 use Rattle.model.specs.Base.{ℕ, [], _∷_, _++_, map}
 use Rattle.model.specs.Types.{Single}
 use Rattle.model.specs.Ascii.{ascii}
-use Rattle.model.specs.Memory.{Memory, State, factory}
+use Rattle.model.specs.Memory.{Memory, State, factory, zeroPosition}
 use Rattle.model.specs.Machine.{refused, began, stepped, restart, writeImage, startFactory, refusesUse, askUse}
 use Rattle.model.specs.Sessions.{answer, replies, taken, number, lent, sent, sixteen, _⇒_, Session}
 
@@ -12,7 +12,7 @@ abbrev pub broken : Memory
 broken = record { systems = []; enabled = record { operating = Single 0; orientational = 0; levelling = 1 } }
 
 abbrev pub stateWith : Memory → Memory → ℕ → ℕ → State
-stateWith v p n e = record { volatile = v; permanent = p; level = n; error = e }
+stateWith v p n e = record { volatile = v; permanent = p; position = zeroPosition; level = n; error = e }
 
 pub record OfNumbers : Type 0 where
   -- [Error 1] a level or an error that cannot be, a memory that is not well formed: all comes back as it was, whatever the line and the buffer
@@ -27,6 +27,7 @@ pub record OfNumbers : Type 0 where
   pub one-image : writeImage (stateWith broken factory 0 3) [] ≡ refused (stateWith broken factory 0 3) 1 []
   pub one-use : askUse (stateWith factory broken 0 0) (ascii "ZERO") ≡ refusesUse
   pub last-errors : answer (sent (stateWith factory factory 1 13) (ascii "ERR?")) ≡ replies "13\n"
+  pub last-fifteen : answer (sent (stateWith factory factory 0 15) (ascii "ERR?")) ≡ replies "15\n"
   pub last-twenty : answer (sent (stateWith factory factory 1 20) (ascii "ERR?")) ≡ replies "20\n"
   -- [Error 2] 4,095 bytes are too few, for a line and for an image; it comes before 3
   pub two : stepped startFactory (ascii "KEN?") (lent 4095) ≡ refused (stateWith factory factory 0 2) 2 (lent 4095)

@@ -1,13 +1,13 @@
 -- Document 01, "Empty programs": stored values, by examples.
 use mathlib.Core.Path.{_≡_}
 use Rattle.model.specs.Base.{ℕ, [], _∷_, pos, negsuc, replicate, false}
-use Rattle.model.specs.Types.{Ksd, Kst, Enabled, Pair, Name, StoredSystem, StoredMemory, StoredState}
+use Rattle.model.specs.Types.{Ksd, Kst, Enabled, Pair, Position, Name, StoredSystem, StoredMemory, StoredState}
 use Rattle.model.specs.Ascii.{ascii}
 use Rattle.model.specs.Pose.{origin}
-use Rattle.model.specs.Memory.{System, Memory, factory, started, noTurn}
+use Rattle.model.specs.Memory.{System, Memory, factory, started, zeroPosition, noTurn}
 use Rattle.model.specs.Machine.{answered}
 use Rattle.model.specs.Stored.{shapeless, holds, viewOf, ofOutcome, lineAnswer, imageAnswer, restartAnswer, useAnswer}
-use Rattle.model.specs.Sessions.{lent}
+use Rattle.model.specs.Sessions.{lent, at}
 
 -- A as it is stored, with this byte behind its name
 abbrev pub storedName : ℕ → Name
@@ -19,7 +19,7 @@ storedMemory n count =
     record { systems = replicate 16 (record { kind = Ksd; name = n; offset = origin; turns = noTurn; pred = 0 }); count = count; enabled = factory .enabled }
 
 abbrev pub storedState : StoredMemory → StoredMemory → StoredState
-storedState v p = record { volatile = v; permanent = p; level = 0; error = 0 }
+storedState v p = record { volatile = v; permanent = p; position = zeroPosition; level = 0; error = 0 }
 
 -- a memory with A alone; one whose count and one whose name goes beyond its array
 abbrev pub fit : StoredMemory
@@ -52,10 +52,14 @@ onlyT = record { kind = Kst; name = ascii "T"; offset = record { x = pos 10; y =
 abbrev pub pairOf : Enabled
 pairOf = record { operating = Pair 5 6; orientational = 7; levelling = 8 }
 
+-- a position of which no two values are the same
+abbrev pub somewhere : Position
+somewhere = at (pos 11) (pos 12) (negsuc 13) (pos 14) (negsuc 15) (pos 16)
+
 pub record OfStorage : Type 0 where
   -- [Memory 2, 4] a stored state stands for its parts
-  pub parts : viewOf (record { volatile = storedMemory (storedName 66) 0; permanent = record { systems = replicate 16 storedT; count = 1; enabled = pairOf }; level = 1; error = 5 })
-      ≡ holds (record { volatile = factory; permanent = record { systems = onlyT ∷ []; enabled = pairOf }; level = 1; error = 5 })
+  pub parts : viewOf (record { volatile = storedMemory (storedName 66) 0; permanent = record { systems = replicate 16 storedT; count = 1; enabled = pairOf }; position = somewhere; level = 1; error = 5 })
+      ≡ holds (record { volatile = factory; permanent = record { systems = onlyT ∷ []; enabled = pairOf }; position = somewhere; level = 1; error = 5 })
   -- [Empty programs, end] what lies behind a name or behind the last system is free
   pub free : viewOf (storedState fit fit) ≡ holds (started onlyA)
   pub free-zero : viewOf (storedState (storedMemory (storedName 0) 1) fit) ≡ holds (started onlyA)

@@ -20,26 +20,31 @@ passed : (rs : List Rung) → first rs ≡ first ((20, false) ∷ rs)
 unfolding first
 passed rs = refl
 
--- 2 to 6
-none-before : (r : Rungs) → first (drop 5 (rungsOf r)) ≡ first (rungsOf r)
+-- 2 to 5
+none-before : (r : Rungs) → first (drop 4 (rungsOf r)) ≡ first (rungsOf r)
 unfolding first
 none-before r = refl
 
 returns : tie.Need-returns
 returns c =
-    let six = c .before in
+    let eight = c .before in
+    let seven = eight .before in
+    let six = seven .before in
     let five = six .before in
     let four = five .before in
     let three = four .before in
     let two = three .before in
     let one = two .before in
-    c .rung7 .ensures _ (six .rung6 .ensures _ (five .rung5 .ensures _ (four .rung4 .ensures _ (three .rung3 .ensures _ (two .rung2 .ensures _ (one .rung .ensures [] no-more) ∙ passed _)))))
+    let unsettled = three .rung3 .ensures _ (two .rung2 .ensures _ (one .rung .ensures [] no-more)) ∙ passed _ in
+    c .rung9 .ensures _ (eight .rung8 .ensures _ (seven .rung7 .ensures _ (six .rung6 .ensures _ (five .rung5 .ensures _ (four .rung4 .ensures _ unsettled)))))
     ∙ none-before (one .before .args .r)
 
 pub first-number-spec : {M : Type 1} → statement M
 first-number-spec =
     tie.close
     (tie.spec
+    (λ c κs. search needs)
+    (λ c κs. search needs)
     (λ c κs. search needs)
     (λ c κs. search needs)
     (λ c κs. search needs)

@@ -23,6 +23,10 @@ returns-5 : tie.Need-returns-5
 unfolding enabledUser
 returns-5 c = rw (c .before .enum-told5 .given .1) (c .with-levelling .ensures)
 
+returns-6 : tie.Need-returns-6
+unfolding enabledUser
+returns-6 c = rw (c .before .enum-told6 .given .1) (c .with-operating4 .ensures)
+
 pub enabled-user-spec : {M : Type 1} → statement M
 enabled-user-spec =
     tie.close
@@ -39,8 +43,11 @@ enabled-user-spec =
     (λ c κs. search needs)
     (λ c. search needs)
     (λ c κs. search needs)
+    (λ c. search needs)
+    (λ c κs. search needs)
     returns
     returns-2
     returns-3
     returns-4
-    returns-5)
+    returns-5
+    returns-6)

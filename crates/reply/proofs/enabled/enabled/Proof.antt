@@ -30,7 +30,7 @@ abbrev at : tie.After-l → ℕ → StoredSystem
 at c i = getD (c .before .before .before .before .before .before .before .before .before .before .before .before .args .t1 .systems) i unset
 
 abbrev first : tie.After-l → List ℕ
-first c = enabledText Operating (c .before .before .before .before .before .before .before .before .before .first-place .result) (systemOf (at c (c .before .before .before .before .before .before .before .before .slot .result)))
+first c = enabledText Operating (c .before .before .before .before .before .before .before .before .before .operating-place .result) (systemOf (at c (c .before .before .before .before .before .before .before .before .slot .result)))
 
 abbrev tool : tie.After-l → List ℕ
 tool c = toolText (c .before .before .before .before .before .before .before .before .before .before .before .before .args .t1 .enabled .operating) (systemOf (at c (c .before .before .before .before .before .before .slot2 .result)))
@@ -41,7 +41,7 @@ groups c = groupsText (c .before .before .before .before .before .before .before
 whole : (c : tie.After-l) → listed (memoryOf (c .before .before .before .before .before .before .before .before .before .before .before .before .args .t1)) enabledOnes ≡ first c ++ (tool c ++ groups c)
 whole c =
     let s = c .before .before .before .before .before .before .before .before .before .before .before .before in
-    rw (c .before .before .before .before .before .before .before .before .slot .ensures, c .before .before .before .before .before .before .slot2 .ensures, c .before .before .before .before .before .slot3 .ensures, c .before .before .before .before .slot4 .ensures, c .before .before .before .before .before .before .before .before .before .first-place .ensures, c .before .before .before .before .before .before .before .tool-half .ensures)
+    rw (c .before .before .before .before .before .before .before .before .slot .ensures, c .before .before .before .before .before .before .slot2 .ensures, c .before .before .before .before .before .slot3 .ensures, c .before .before .before .before .slot4 .ensures, c .before .before .before .before .before .before .before .before .before .operating-place .ensures, c .before .before .before .before .before .before .before .tool-half .ensures)
     (enabled-whole (s .args .t1) (s .pre .0) (long s))
 
 fits : (c : tie.After-l) → length (first c) + (length (tool c) + length (groups c)) ≤ length (c .before .before .before .before .before .before .before .before .before .before .before .before .args .reply .now)
@@ -58,7 +58,7 @@ named c p i h e n = let s = c .before .before .before .before .before .before .b
 element-copy-out-a : tie.Need-element-copy-out-a
 element-copy-out-a c =
     let s = c .before .before .before .before .before .before .before .before in
-    omega (arith, first-within (s .args .t1) (s .pre .0) (long s), shaped-count (s .args .t1) (s .pre .0 .shape), c .before .before .before .before .slot .ensures, c .before .before .before .before .before .first-place .ensures)
+    omega (arith, first-within (s .args .t1) (s .pre .0) (long s), shaped-count (s .args .t1) (s .pre .0 .shape), c .before .before .before .before .slot .ensures, c .before .before .before .before .before .operating-place .ensures)
 
 element-copy-out-b : tie.Need-element-copy-out-b
 element-copy-out-b c =
@@ -79,7 +79,7 @@ put-enabled-requires : tie.Need-put-enabled-requires
 put-enabled-requires c κs =
     let k = c .before in
     let s = k .before .before .before .before .before .before .before .before .before .before .before .before in
-    let p = k .before .before .before .before .before .before .before .before .before .first-place in (
+    let p = k .before .before .before .before .before .before .before .before .before .operating-place in (
       named k (p .result) (k .before .before .before .before .before .before .before .before .slot .result) (rw (p .ensures) (first-within (s .args .t1) (s .pre .0) (long s))) (k .before .before .before .before .before .before .before .before .slot .ensures),
       omega (arith, fits k),
     )

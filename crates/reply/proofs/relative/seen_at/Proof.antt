@@ -7,8 +7,7 @@ use Rattle.model.specs.Stored.{systemsOf}
 use Rattle.chains.specs.Walk.{walkOf, walked, onward, undoneOf}
 use Rattle.chains.proofs.Copies.{length-mapped}
 use Rattle.chains.proofs.Reaching.{walked-fixed}
-use Rattle.reply.proofs.KeptLaws.{held, taken}
-use Rattle.reply.proofs.ReachLaws.{FlatOf, flat-of, can-walk, deep-enough, flat-walk, walk-near, undone-near}
+use Rattle.chains.proofs.Flattened.{FlatOf, flat-of, can-walk, deep-enough, flat-walk, walk-near, undone-near, held, taken}
 use borrow.Author.Needs.{needs}
 use Rattle.reply.proofs.relative.seen_at.Statement.{statement}
 use Rattle.reply.proofs.relative.seen_at.Tie as tie

@@ -17,10 +17,10 @@ use Rattle.print.proofs.Laws.{wrote-then}
 use Rattle.model.proofs.Shape.{shaped-count, systemsOf-count}
 use Rattle.reply.specs.Lines.{atFixed}
 use Rattle.reply.specs.Reached.{reachedText, refAt}
-use Rattle.reply.proofs.KeptLaws.{held, taken}
 use Rattle.reply.proofs.LineLaws.{at-user}
 use Rattle.reply.proofs.ListLaws.{replied}
-use Rattle.reply.proofs.ReachLaws.{ref-place, ref-fixed, ref-user, FlatOf, flat-of, can-walk, deep-enough, reached-within, reached-line}
+use Rattle.chains.proofs.Flattened.{FlatOf, flat-of, can-walk, deep-enough, held, taken}
+use Rattle.reply.proofs.ReachLaws.{ref-place, ref-fixed, ref-user, reached-within, reached-line}
 use Rattle.reply.proofs.ShortLaws.{resultant-short}
 use Rattle.reply.proofs.StoredLaws.{name-fits}
 use borrow.Author.Needs.{needs}

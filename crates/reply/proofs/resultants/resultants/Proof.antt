@@ -15,11 +15,12 @@ use Rattle.chains.proofs.Copies.{length-mapped, unset}
 use Rattle.print.specs.Over.{Wrote}
 use Rattle.reply.specs.Lines.{further, atFixed}
 use Rattle.reply.specs.Reached.{reachedText}
-use Rattle.reply.proofs.KeptLaws.{Kept, kept-start, kept-on, held, taken}
+use Rattle.reply.proofs.KeptLaws.{Kept, kept-start, kept-on}
 use Rattle.reply.proofs.LineLaws.{at-user}
 use Rattle.reply.proofs.ListLaws.{Going, plan-room, plan-start, plan-end, going-on, going-room, going-within, going-turn}
 use Rattle.reply.proofs.PlanLaws.{lineAt, resultants-plan}
-use Rattle.reply.proofs.ReachLaws.{FlatOf, flat-of, can-walk, deep-enough, reached-within, reached-line}
+use Rattle.chains.proofs.Flattened.{FlatOf, flat-of, can-walk, deep-enough, held, taken}
+use Rattle.reply.proofs.ReachLaws.{reached-within, reached-line}
 use Rattle.reply.proofs.StoredLaws.{name-fits}
 use Rattle.reply.proofs.resultants.resultants.Statement.{statement}
 use Rattle.reply.proofs.resultants.resultants.Tie as tie

@@ -17,6 +17,9 @@ put-text-requires-4 c κs = rw (c .before .before .enum-told4 .given .1) at (c .
 put-text-requires-5 : tie.Need-put-text-requires-5
 put-text-requires-5 c κs = rw (c .before .before .enum-told5 .given .1) at (c .before .before .before .before .before .pre)
 
+put-text-requires-6 : tie.Need-put-text-requires-6
+put-text-requires-6 c κs = rw (c .before .before .enum-told6 .given .1) at (c .before .before .before .before .before .pre)
+
 returns : tie.Need-returns
 returns c = let k = c .before .before in rw (k .before .before .before .enum-told .given .1) (k .put-text .ensures)
 
@@ -31,6 +34,9 @@ returns-4 c = let k = c .before .before in rw (k .before .before .before .enum-t
 
 returns-5 : tie.Need-returns-5
 returns-5 c = let k = c .before .before in rw (k .before .before .before .enum-told5 .given .1) (k .put-text5 .ensures)
+
+returns-6 : tie.Need-returns-6
+returns-6 c = let k = c .before .before in rw (k .before .before .before .enum-told6 .given .1) (k .put-text6 .ensures)
 
 pub put-kind-spec : {M : Type 1} → statement M
 put-kind-spec =
@@ -52,6 +58,9 @@ put-kind-spec =
     (λ c. search needs)
     put-text-requires-5
     (λ c. search needs)
+    (λ c. search needs)
+    put-text-requires-6
+    (λ c. search needs)
     returns
     (λ c. search needs)
     returns-2
@@ -60,4 +69,6 @@ put-kind-spec =
     (λ c. search needs)
     returns-4
     (λ c. search needs)
-    returns-5)
+    returns-5
+    (λ c. search needs)
+    returns-6)

@@ -28,6 +28,10 @@ abbrev left5 : tie.Else5 → Tried threeLetters
 unfolding definitions
 left5 c = missed (left4 (c .before .before .before)) (c .before .is-word5 .ensures) (c .if5 .left)
 
+abbrev left6 : tie.Else6 → Tried threeLetters
+unfolding definitions
+left6 c = missed (left5 (c .before .before .before)) (c .before .is-word6 .ensures) (c .if6 .left)
+
 pub definition-spec : {M : Type 1} → statement M
 unfolding definitions
 definition-spec =
@@ -48,5 +52,8 @@ definition-spec =
     (λ c. search needs)
     (λ c κs. search needs)
     (λ c. is-command (left4 (c .before .before .before)) (c .before .is-word5 .ensures) (c .if5 .taken))
+    (λ c. search needs)
     (λ c κs. search needs)
-    (λ c args. c .edit .ensures args ∙ is-left (left5 (c .before)) args))
+    (λ c. is-command (left5 (c .before .before .before)) (c .before .is-word6 .ensures) (c .if6 .taken))
+    (λ c κs. search needs)
+    (λ c args. c .edit .ensures args ∙ is-left (left6 (c .before)) args))

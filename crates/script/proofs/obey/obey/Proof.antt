@@ -71,6 +71,10 @@ slice-reshare-prefix-obey-use c = use-bounded (c .before)
 slice-aggregate-obey-use : tie.Need-slice-aggregate-obey-use
 slice-aggregate-obey-use c = sym (length-take-le _ _ (use-bounded (c .before .before)))
 
+-- the fact lies too far back for the search
+say-begun-requires-4 : tie.Need-say-begun-requires-4
+say-begun-requires-4 c κs = let k = c .before .before .before in omega (arith, k .before .before .before .before .before .before .before .before .before .before .pre .2)
+
 put-complaint-requires : tie.Need-put-complaint-requires
 put-complaint-requires c κs = let st = c .before .before .before .before .before .before .before .before .before .before .before in omega (arith, complaint-short (st .args .line) (st .fits .line .fits), st .pre .2)
 
@@ -124,7 +128,15 @@ returns-6 c =
     as-ordered (viewOf (a .s)) (a .line) (a .text .now) (rw (k .count3 .given .1) at (k .before .before .before .before .parse .ensures .order)) refl (c .before .before .obey-use .ensures)
 
 returns-7 : tie.Need-returns-7
+unfolding done
 returns-7 c =
+    let k = c .before .before .before .before .before .before in
+    let a = k .before .before .before .before .before .before .before .before .before .before .args in
+    as-ordered (viewOf (a .s)) (a .line) (a .text .now) (rw (k .p .given .1) at (k .before .before .before .before .parse .ensures .order)) refl
+    (answers-by (ap alone (c .before .before .before .before .set-position .ensures)) (c .before .before .say-begun4 .ensures))
+
+returns-8 : tie.Need-returns-8
+returns-8 c =
     let p = c .before .before in
     let st = c .before .before .before .before .before .before .before .before .before .before .before .before .before .before in
     let a = st .args in
@@ -162,6 +174,9 @@ obey-spec =
     slice-aggregate-obey-use
     (λ c κs. search needs)
     (λ c. search needs)
+    (λ c κs. search needs)
+    say-begun-requires-4
+    (λ c. search needs)
     put-complaint-requires
     (λ c. search needs)
     (λ c. search needs)
@@ -185,4 +200,7 @@ obey-spec =
     returns-6
     (λ c. search needs)
     (λ c. search needs)
-    returns-7)
+    returns-7
+    (λ c. search needs)
+    (λ c. search needs)
+    returns-8)

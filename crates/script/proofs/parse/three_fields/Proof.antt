@@ -20,7 +20,7 @@ returns-2 c = three-wrong _ _ _ (is-line (c .before .before .before .before .bef
 returns-3 : tie.Need-returns-3
 returns-3 c =
     let r = c .before .before .before in
-    rw (c .before .length .given .1)
+    rw (c .before .n .given .1)
     at (three-line _ _ _ (is-line (r .before .before .before .before .before .before .before)) (r .before .before .before .before .before .read-bytes .ensures) (r .read-length .result) (not-false _ (r .before .if2 .left)) (r .read-length .ensures))
 
 returns-4 : tie.Need-returns-4

@@ -1,4 +1,5 @@
 -- `run_lines`: a run over the block, line by line, the state open in its parts.
+use Rattle.model.specs.declared.Position.{Position}
 use Rattle.model.specs.declared.Memory.{Memory as StoredMemory}
 use Rattle.model.specs.declared.State.{State as StoredState}
 use Prim.Native.Nat.{ℕ, _+_, _-_, _<_}
@@ -12,6 +13,7 @@ use lib.Dec.{eqb}
 use lib.ListN.{length, take, drop}
 use Rattle.model.specs.Stored.{memoryOf, stateOf}
 use Rattle.model.proofs.Basics.{or-split, or-false}
+use Rattle.model.proofs.Memories.Fine.{state-of}
 use Rattle.model.proofs.Histories.Tally.{same-sums, counted-sums}
 use Rattle.commands.specs.Done.{numberIn, Applied}
 use Rattle.commands.proofs.Deeds.{put-fits, remove-fits, applied-keep, applied-error, applied-put, applied-remove, applied-held, applied-enable, applied-level, applied-save, applied-restore, applied-reset}
@@ -29,20 +31,20 @@ use Rattle.session.proofs.run.run_lines.Statement.{statement}
 use Rattle.session.proofs.run.run_lines.Tie as tie
 
 -- the stored state of these parts
-abbrev stateWith : StoredMemory → StoredMemory → ℕ → ℕ → StoredState
-stateWith v p level error = record { volatile = v; permanent = p; level = level; error = error }
+abbrev stateWith : StoredMemory → StoredMemory → Position → ℕ → ℕ → StoredState
+stateWith v p position level error = record { volatile = v; permanent = p; position = position; level = level; error = error }
 
 -- the stored tally of these
 abbrev tallyOn : List ℕ → ℕ → StoredTally
 tallyOn counts total = record { counts = counts; total = total }
 
 abbrev Inv-loop : tie.InvT-loop
-Inv-loop k block out₀ volatile₀ permanent₀ level₀ error₀ counts₀ total₀ used₀ written₀ due₀ out volatile permanent level error counts total used written due =
-    Run k (stateOf (stateWith volatile₀ permanent₀ level₀ error₀)) (tallyOf (tallyOn counts₀ total₀)) block out₀ out (stateWith volatile permanent level error) (tallyOn counts total) used written due
+Inv-loop k block out₀ volatile₀ permanent₀ position level₀ error₀ counts₀ total₀ used₀ written₀ due₀ out volatile permanent level error counts total used written due =
+    Run k (stateOf (stateWith volatile₀ permanent₀ position level₀ error₀)) (tallyOf (tallyOn counts₀ total₀)) block out₀ out (stateWith volatile permanent position level error) (tallyOn counts total) used written due
     × (length counts ≡ numbers)
 
 abbrev μ-loop : tie.MeasureT-loop
-μ-loop k block out₀ volatile₀ permanent₀ level₀ error₀ counts₀ total₀ used₀ written₀ due₀ out volatile permanent level error counts total used written due =
+μ-loop k block out₀ volatile₀ permanent₀ position level₀ error₀ counts₀ total₀ used₀ written₀ due₀ out volatile permanent level error counts total used written due =
     length block - used
 
 -- the counts have a place for each number
@@ -51,7 +53,7 @@ places c = search needs
 
 loop-holds : tie.Need-loop-holds Inv-loop μ-loop
 loop-holds c =
-    let start = c .before .before .before .before .before .before in
+    let start = c .before .before .before .before .before .before .before in
     (rw (c .nothing-due .ensures) (run-start (start .args .k) (start .args .s) (start .args .t) (start .args .block .now) (start .args .out .now) (start .pre .0)), places start)
 
 sub-loop : tie.Need-sub-loop Inv-loop μ-loop
@@ -68,13 +70,13 @@ turn c = c .before .before .before .before
 
 -- and the start of all
 abbrev start : tie.Else1 Inv-loop μ-loop → tie.Start Inv-loop μ-loop
-start c = turn c .before .before .before .before .before .before .before
+start c = turn c .before .before .before .before .before .before .before .before
 
 -- nothing is due there
 idle : (c : tie.Else1 Inv-loop μ-loop) →
     let l = turn c .loop in
     let a = start c .args in
-    Run (a .k) (stateOf (a .s)) (tallyOf (a .t)) (a .block .now) (a .out .now) (l .out) (stateWith (l .volatile) (l .permanent) (l .level) (l .error)) (tallyOn (l .counts) (l .total)) (l .used) (l .written) nothing
+    Run (a .k) (stateOf (a .s)) (tallyOf (a .t)) (a .block .now) (a .out .now) (l .out) (stateWith (l .volatile) (l .permanent) (a .s .position) (l .level) (l .error)) (tallyOn (l .counts) (l .total)) (l .used) (l .written) nothing
 idle c =
     let l = turn c .loop in
     let none = not-due (l .due) (sym (c .before .is-due .ensures) ∙ or-false _ _ (c .if1 .left) .0) in
@@ -94,7 +96,7 @@ sub-decide : tie.Need-sub-decide Inv-loop μ-loop
 sub-decide c = let l = turn (c .before) .loop in omega (arith, l .inv .0 .room, l .inv .0 .long)
 
 decide-requires : tie.Need-decide-requires Inv-loop μ-loop
-decide-requires c κs = fine-volatile _ (turn (c .before .before) .loop .inv .0 .fine)
+decide-requires c κs = let fine = turn (c .before .before) .loop .inv .0 .fine in (fine-volatile _ fine, state-of _ (fine .formed) .position)
 
 sub-say : tie.Need-sub-say Inv-loop μ-loop
 sub-say c =
@@ -105,7 +107,7 @@ say-requires : tie.Need-say-requires Inv-loop μ-loop
 say-requires c κs =
     let p = c .before .before .before .before .before .before .before .before .before .before .before .before in
     let l = turn p .loop in
-    rw (rest-long (withRest (l .out) (l .written) (c .before .before .before .before .before .before .before .before .before .decide .last .1 .1 .1 .1 .0)) (l .written))
+    rw (rest-long (withRest (l .out) (l .written) (c .before .before .before .before .before .before .before .before .before .decide .last .1 .1 .1 .1 .1 .0)) (l .written))
     (omega (arith, c .before .before .before .before .before .before .before .before .out .given .1, p .before .before .before .loop-test .taken))
 
 -- ---- its turn
@@ -124,20 +126,20 @@ said : (c : tie.After-slice-known3 Inv-loop μ-loop) →
     let a = start p .args in
     let step = c .before .before .before .before .before .before .before .before .before .before .before .before .decide in
     Turned (a .k) (stateOf (a .s)) (tallyOf (a .t)) (a .block .now) (a .out .now)
-    (withRest (withRest (l .out) (l .written) (step .last .1 .1 .1 .1 .0)) (l .written) (c .before .before .say .last .1 .1 .0))
-    (stateWith (l .volatile) (l .permanent) (l .level) (l .error)) (counted-so c) (step .result .decision) (p .before .before .line-end .result + 1) (l .written + c .before .before .say .result) (c .before .before .before .before .due-of .result)
+    (withRest (withRest (l .out) (l .written) (step .last .1 .1 .1 .1 .1 .0)) (l .written) (c .before .before .say .last .1 .1 .0))
+    (stateWith (l .volatile) (l .permanent) (a .s .position) (l .level) (l .error)) (counted-so c) (step .result .decision) (p .before .before .line-end .result + 1) (l .written + c .before .before .say .result) (c .before .before .before .before .due-of .result)
 said c =
     let p = ended c in
     let l = turn p .loop in
     let a = start p .args in
     let step = c .before .before .before .before .before .before .before .before .before .before .before .before .decide in
     let end = p .before .before .line-end in
-    let s = stateWith (l .volatile) (l .permanent) (l .level) (l .error) in
+    let s = stateWith (l .volatile) (l .permanent) (a .s .position) (l .level) (l .error) in
     let size : end .result - l .used ≡ before (drop (l .used) (a .block .now)) = omega (arith, end .ensures) in
     turned (a .k) (stateOf (a .s)) (tallyOf (a .t)) (a .block .now) (a .out .now) (l .out) s (tallyOn (l .counts) (l .total)) (l .used) (l .written) (idle p)
     (end .result) (end .ensures) (inside p) _ (ap (λ (k : ℕ). take k (drop (l .used) (a .block .now))) size)
     (rw (rest-long (l .out) (l .written)) (omega (arith, p .before .before .before .loop-test .taken)))
-    (step .result) _ (step .ensures s refl refl refl (l .inv .0 .fine)) (c .before .before .before .before .before .before .before .before .before .before .before .out .given .0)
+    (step .result) _ (step .ensures s refl refl refl refl (l .inv .0 .fine)) (c .before .before .before .before .before .before .before .before .before .before .before .out .given .0)
     _ (c .before .before .before .before .before .before .before .before .settled .ensures)
     (counted-so c) (c .before .before .before .before .before .before .count-in .ensures) _ _ (c .before .before .say .ensures) (c .before .out2 .given .0) _ (c .before .before .before .before .due-of .ensures)
 
@@ -151,9 +153,9 @@ went : {s : StoredState} (c : tie.After-slice-known3 Inv-loop μ-loop) →
     let l = turn p .loop in
     let a = start p .args in
     let step = c .before .before .before .before .before .before .before .before .before .before .before .before .decide in
-    Applied (stateWith (l .volatile) (l .permanent) (l .level) (l .error)) (step .result .decision) s →
+    Applied (stateWith (l .volatile) (l .permanent) (a .s .position) (l .level) (l .error)) (step .result .decision) s →
     Run (a .k) (stateOf (a .s)) (tallyOf (a .t)) (a .block .now) (a .out .now)
-    (withRest (withRest (l .out) (l .written) (step .last .1 .1 .1 .1 .0)) (l .written) (c .before .before .say .last .1 .1 .0))
+    (withRest (withRest (l .out) (l .written) (step .last .1 .1 .1 .1 .1 .0)) (l .written) (c .before .before .say .last .1 .1 .0))
     s (counted-so c) (p .before .before .line-end .result + 1) (l .written + c .before .before .say .result) (c .before .before .before .before .due-of .result)
     × (length (counted-so c .counts) ≡ numbers)
 went c done = (said c .next done, stay (c .before .before .before .before .before .before))

@@ -2,8 +2,8 @@ use mathlib.Core.Path.{_≡_}
 use borrow.Author.Needs.{needs}
 use mir.Syntax.{w64}
 use mir.Val.{toZ, ofZ}
-use Rattle.memory.proofs.fine.offsets_fine.Statement.{statement}
-use Rattle.memory.proofs.fine.offsets_fine.Tie as tie
+use Rattle.text.proofs.values.offsets_fine.Statement.{statement}
+use Rattle.text.proofs.values.offsets_fine.Tie as tie
 
 returns : tie.Need-returns
 returns c =

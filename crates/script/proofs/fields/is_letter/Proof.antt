@@ -3,8 +3,8 @@ use mathlib.Core.List.{[], _∷_}
 use borrow.Author.Needs.{needs}
 use Rattle.text.proofs.Lists as lists
 use Rattle.script.proofs.FieldLaws.{same-one}
-use Rattle.script.proofs.parse.is_letter.Statement.{statement}
-use Rattle.script.proofs.parse.is_letter.Tie as tie
+use Rattle.script.proofs.fields.is_letter.Statement.{statement}
+use Rattle.script.proofs.fields.is_letter.Tie as tie
 
 returns : tie.Need-returns
 returns c = let a = c .before .args in sym (lists.same-length (a .word .now) (a .letter ∷ []) (c .if1 .taken))
