@@ -78,7 +78,7 @@ pub fn restart(s: State) -> Begun
     }
 }
 
-// The platform's position is told: X Y Z in millionths of a millimetre, U V W in millionths of a degree.
+// The platform's position is told, in millionths: its offset in millimetres, its angles in degrees.
 pub fn set_position(s: State, p: Position) -> Begun
     ensures { λ r. ⌜ PositionPromise s p (returnedAlone r) ⌝ }
 {

@@ -1,7 +1,6 @@
 -- KEN? by its parts.
 use Prim.Native.Nat.{ℕ, _+_, _-_, _≤_, _<_}
 use mathlib.Core.Path.{_≡_, refl, sym}
-use mathlib.Core.Logic.{⊎-elim}
 use mathlib.Core.Bool.{true, false, false≢true}
 use mathlib.Core.List.{List, [], _∷_, _++_, map, append-assoc, append-nil}
 use native.Mathlib.Omega.{arith}
@@ -14,6 +13,7 @@ use Rattle.model.specs.Stored.{systemOf, systemsOf, memoryOf, FineMemory}
 use Rattle.model.specs.Use.{operatingPlaces, inGroup, enabledRefs}
 use Rattle.model.specs.Request.{enabledOnes}
 use Rattle.model.specs.Reply.{listing, enabledLine, listed}
+use Rattle.chains.proofs.Flattened.{operating-there}
 use Rattle.model.proofs.Memories.Fine.{Placed, PartPlaced, fine-of}
 use Rattle.chains.proofs.Copies.{unset}
 use Rattle.model.proofs.Shape.{systemsOf-count}
@@ -70,13 +70,6 @@ module _ (m : StoredMemory) (ready : FineMemory m) (long : length (m .systems) �
       go (yes h) = omega (arith, f h .0, systemsOf-count m (ready .shape) long)
       go (no h) = omega arith
 
-  pub first-within : operatingPlace (m .enabled .operating) ≤ m .count
-  first-within = go (m .enabled .operating) (fine-of (memoryOf m) (ready .formed) .enabled .operating)
-    where
-      go : (part : OperatingPart) → PartPlaced (systemsOf m) part → operatingPlace part ≤ m .count
-      go (Single p) f = ⊎-elim (placed-within _ p) (placed-within _ p) f
-      go (Pair w t) f = placed-within _ w (f .0)
-
   pub tool-within : toolHalf (m .enabled .operating) ≤ m .count
   tool-within = go (m .enabled .operating) (fine-of (memoryOf m) (ready .formed) .enabled .operating)
     where
@@ -100,4 +93,4 @@ module _ (m : StoredMemory) (ready : FineMemory m) (long : length (m .systems) �
   enabled-whole =
       let e = m .enabled in
       let turn = enabled-turn m (ready .shape) long in
-      parts (enabledLine (systemsOf m)) e (e .operating) _ _ _ _ (turn Operating _ first-within) (turn Operating _ tool-within) (turn Orientational _ orientational-within) (turn Levelling _ levelling-within)
+      parts (enabledLine (systemsOf m)) e (e .operating) _ _ _ _ (turn Operating _ (operating-there m ready long)) (turn Operating _ tool-within) (turn Orientational _ orientational-within) (turn Levelling _ levelling-within)

@@ -13,7 +13,8 @@ use Rattle.model.proofs.Shape.{shaped-count}
 use Rattle.reply.specs.Types.{Operating, StoredSystem}
 use Rattle.reply.specs.Lines.{enabledText}
 use Rattle.reply.specs.EnabledText.{toolText, groupsText}
-use Rattle.reply.proofs.EnabledLaws.{first-within, tool-within, orientational-within, levelling-within, enabled-whole}
+use Rattle.chains.proofs.Flattened.{operating-there}
+use Rattle.reply.proofs.EnabledLaws.{tool-within, orientational-within, levelling-within, enabled-whole}
 use Rattle.reply.proofs.ListLaws.{replied}
 use Rattle.reply.proofs.ShortLaws.{listed-short}
 use Rattle.reply.proofs.StoredLaws.{name-fits}
@@ -58,7 +59,7 @@ named c p i h e n = let s = c .before .before .before .before .before .before .b
 element-copy-out-a : tie.Need-element-copy-out-a
 element-copy-out-a c =
     let s = c .before .before .before .before .before .before .before .before in
-    omega (arith, first-within (s .args .t1) (s .pre .0) (long s), shaped-count (s .args .t1) (s .pre .0 .shape), c .before .before .before .before .slot .ensures, c .before .before .before .before .before .operating-place .ensures)
+    omega (arith, operating-there (s .args .t1) (s .pre .0) (long s), shaped-count (s .args .t1) (s .pre .0 .shape), c .before .before .before .before .slot .ensures, c .before .before .before .before .before .operating-place .ensures)
 
 element-copy-out-b : tie.Need-element-copy-out-b
 element-copy-out-b c =
@@ -80,7 +81,7 @@ put-enabled-requires c κs =
     let k = c .before in
     let s = k .before .before .before .before .before .before .before .before .before .before .before .before in
     let p = k .before .before .before .before .before .before .before .before .before .operating-place in (
-      named k (p .result) (k .before .before .before .before .before .before .before .before .slot .result) (rw (p .ensures) (first-within (s .args .t1) (s .pre .0) (long s))) (k .before .before .before .before .before .before .before .before .slot .ensures),
+      named k (p .result) (k .before .before .before .before .before .before .before .before .slot .result) (rw (p .ensures) (operating-there (s .args .t1) (s .pre .0) (long s))) (k .before .before .before .before .before .before .before .before .slot .ensures),
       omega (arith, fits k),
     )
 
