@@ -9,7 +9,6 @@ use lib.ListN.{length, length-set}
 use Rattle.model.specs.Pose.{followed, rotOf}
 use Rattle.model.specs.Memory.{System, Memory, systemAt, isUser, placeNamed, named, userNamed}
 use Rattle.model.specs.Chain.{predOf, steps, resultant, ownPose}
-use Rattle.model.specs.Refusals.{first}
 use Rattle.model.specs.Effects.{put}
 use Rattle.model.proofs.Basics.{either}
 use Rattle.model.proofs.Chains.Hops.{predOf-is, ring-free}
