@@ -14,20 +14,20 @@ use session::feed::Session;
 use store::save::save;
 
 // The receipt: all that is due for a block up to this place was handed out. The place is this module's own.
-#[derive(Drop)]
+#[derive(Clone, Copy)]
 pub struct Receipt {
     at: usize,
 }
 
 // What handing out left: the receipt, and whether all could be done.
-#[derive(Drop)]
+#[derive(Clone, Copy)]
 pub struct Handed {
     pub receipt: Receipt,
     pub ok: bool,
 }
 
 // That the end of the input was handed out. Whether it could be done is this module's own.
-#[derive(Drop)]
+#[derive(Clone, Copy)]
 pub struct Last {
     done: bool,
 }

@@ -11,7 +11,7 @@ use session::due::{Due, Manner};
 use session::feed::{Session, feed, finish};
 
 // What a block left: the session, the receipt for what was handed out, and whether all that was due could be done.
-#[derive(Drop)]
+#[derive(Clone, Copy)]
 pub struct Served {
     pub session: Session,
     pub receipt: Receipt,

@@ -10,7 +10,7 @@ use store::load::{Loaded, load};
 use store::say::complain;
 
 // The session that begins, and whether there is one: no other start takes its place.
-#[derive(Drop)]
+#[derive(Clone, Copy)]
 pub struct Started {
     pub session: Session,
     pub ok: bool,

@@ -12,7 +12,7 @@ use model::{Memory, Rot, Turns, Vec3};
 use pose::Pose;
 
 // Own offsets and turns, three numbers to a system.
-#[derive(Drop)]
+#[derive(Clone, Copy)]
 pub struct Frames {
     pub offsets: [i64; MAX_SYSTEMS * 3],
     pub turns: [u8; MAX_SYSTEMS * 3],
@@ -47,7 +47,7 @@ pub fn frames_of(m: Memory) -> Frames
 
 // What a walk has reached: the resultant's offset and rotation, and how many links it followed. (One row without gaps: a struct with a pose in it takes
 // longer to copy, and a walk copies what it has reached at every link.)
-#[derive(Drop)]
+#[derive(Clone, Copy)]
 pub struct Reached {
     pub at: Vec3,
     pub rot: Rot,

@@ -11,7 +11,7 @@ use facts::limits::MAX_SYSTEMS;
 use model::Memory;
 
 // The predecessors' places of the first count systems.
-#[derive(Drop)]
+#[derive(Clone, Copy)]
 pub struct Links {
     pub preds: [u8; MAX_SYSTEMS],
     pub count: usize,
@@ -86,7 +86,7 @@ pub fn no_ring(preds: &[u8]) -> bool
 }
 
 // What a walk that looks for a place gives: whether the place turned up, and how many systems were looked at, that one among them.
-#[derive(Drop)]
+#[derive(Clone, Copy)]
 pub struct Search {
     pub found: bool,
     pub looked: usize,

@@ -13,7 +13,7 @@ use model::{Enabled, OperatingPart};
 pub const NOWHERE: usize = 256;
 
 // The place that is sought in each group: a user system's is the same in all of them, a fixed system's is 0 in its own group and nowhere in the others.
-#[derive(Drop)]
+#[derive(Clone, Copy)]
 pub struct Sought {
     pub operating: usize,
     pub orientational: usize,

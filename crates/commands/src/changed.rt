@@ -11,7 +11,7 @@ use memory::factory::{blank_system, factory_memory};
 use model::{Enabled, Memory, State, System};
 
 // What a line does to the state. Places and values are those that are set. A removal still depends on the permanent memory (`settled`).
-#[derive(Drop)]
+#[derive(Clone, Copy)]
 pub enum Deed {
     Keep,
     SetError(u8),
@@ -25,7 +25,7 @@ pub enum Deed {
 }
 
 // The number, 0 if the change is accepted (a removal as far as the volatile memory tells); what is done; and the system that Put puts or Remove takes away.
-#[derive(Drop)]
+#[derive(Clone, Copy)]
 pub struct Decision {
     pub number: u8,
     pub deed: Deed,

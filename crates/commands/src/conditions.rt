@@ -96,7 +96,7 @@ pub fn name_used(m: Memory, n: Name) -> bool
 }
 
 // What the links say of the system at a place: it is in use; it is the other one or on its chain.
-#[derive(Drop)]
+#[derive(Clone, Copy)]
 pub struct Ties {
     pub used: bool,
     pub ring: bool,

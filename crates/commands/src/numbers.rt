@@ -9,7 +9,7 @@ use facts::numbers::{
 
 // Which conditions hold; the order in which they are tried is the definitions' `precedence`. A number that a change does not know has a condition that
 // is false. 20 is none of these: `changed::settled` gives it, last.
-#[derive(Drop)]
+#[derive(Clone, Copy)]
 pub struct Rungs {
     pub beyond: bool,
     pub absent: bool,

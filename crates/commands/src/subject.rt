@@ -13,7 +13,7 @@ use memory::names::reserved_name;
 use model::{Enabled, Group, Kind, Memory, Name, System};
 
 // What a name means, whether no system has it, whether it is reserved, and the place, group and type of its system.
-#[derive(Drop)]
+#[derive(Clone, Copy)]
 pub struct Subject {
     pub found: Found,
     pub absent: bool,
@@ -24,7 +24,7 @@ pub struct Subject {
 }
 
 // Two names, the first one's system, the links, and what is enabled.
-#[derive(Drop)]
+#[derive(Clone, Copy)]
 pub struct Looked {
     pub first: Subject,
     pub second: Subject,

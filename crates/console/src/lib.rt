@@ -13,7 +13,7 @@ use session::feed::{Session, begin, feed, finish};
 use tally::put_tally;
 
 // What a block left: the session, and whether its answers could be written.
-#[derive(Drop)]
+#[derive(Clone, Copy)]
 struct Served {
     session: Session,
     ok: bool,

@@ -6,14 +6,14 @@ use commands::changed::{Decision, Deed, accepted};
 use model::State;
 
 // What is decided, and how many bytes of the lent buffer were written.
-#[derive(Drop)]
+#[derive(Clone, Copy)]
 pub struct Step {
     pub decision: Decision,
     pub length: usize,
 }
 
 // The next state, the number (0: accepted), and how many bytes of the lent buffer were written.
-#[derive(Drop)]
+#[derive(Clone, Copy)]
 pub struct Stepped {
     pub state: State,
     pub number: u8,

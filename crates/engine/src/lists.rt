@@ -58,7 +58,7 @@ pub fn resultants_line(m: Memory, reply: &mut [u8]) -> Step
 }
 
 // The system from which a pose is seen: the one at which the chain ends, or that at another place of the group.
-#[derive(Drop)]
+#[derive(Clone, Copy)]
 enum End {
     OfChain,
     At(u8),

@@ -8,7 +8,7 @@ use model::{Group, Kind};
 use signed::{magnitude, negated};
 
 // The type of a code, with its group.
-#[derive(Drop)]
+#[derive(Clone, Copy)]
 pub enum Coded {
     Known(Kind, Group),
     Refused,

@@ -10,7 +10,7 @@ use crate::systems::MOST_BYTE;
 use model::{Enabled, OperatingPart};
 
 // What is enabled, and the place after it; or no such numbers.
-#[derive(Drop)]
+#[derive(Clone, Copy)]
 pub enum EnabledRead {
     There(Enabled, usize),
     NotThere,

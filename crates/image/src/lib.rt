@@ -20,7 +20,7 @@ mod numbers;
 mod systems;
 
 // The memory whose image the bytes are; the factory memory if they are the image of none.
-#[derive(Drop)]
+#[derive(Clone, Copy)]
 pub struct ImageRead {
     pub ok: bool,
     pub memory: Memory,

@@ -20,7 +20,7 @@ use model::{Memory, System};
 const EDITION: u64 = 1;
 
 // The first systems that were read, and the place after them.
-#[derive(Drop)]
+#[derive(Clone, Copy)]
 pub struct SystemsRead {
     pub ok: bool,
     pub next: usize,
@@ -58,7 +58,7 @@ fn read_systems(bytes: &[u8], at: usize, count: usize) -> SystemsRead
 }
 
 // A memory, and the place after it.
-#[derive(Drop)]
+#[derive(Clone, Copy)]
 pub struct MemoryRead {
     pub ok: bool,
     pub next: usize,

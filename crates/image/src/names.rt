@@ -10,7 +10,7 @@ use facts::names;
 use model::Name;
 
 // A name, and the place after it.
-#[derive(Drop)]
+#[derive(Clone, Copy)]
 pub struct NameRead {
     pub ok: bool,
     pub next: usize,

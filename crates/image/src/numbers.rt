@@ -8,7 +8,7 @@ ghost use Rattle.image.specs.Views.{number_told, number_up_to, numbers_told};
 use signed::wide;
 
 // A number, and the place after it; or none in its shortest form that is not above the most.
-#[derive(Drop)]
+#[derive(Clone, Copy)]
 pub enum Number {
     Read(u64, usize),
     Refused,
@@ -50,7 +50,7 @@ pub fn read_number(bytes: &[u8], at: usize, most: u64) -> Number
 }
 
 // The first values that were read, and the place after them.
-#[derive(Drop)]
+#[derive(Clone, Copy)]
 pub struct Numbers {
     pub ok: bool,
     pub next: usize,

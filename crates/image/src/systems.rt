@@ -23,7 +23,7 @@ pub const MOST_BYTE: u64 = 255;
 const MOST_OFFSET: u64 = 2 * OFFSET_LIMIT;
 
 // A system, and the place after it.
-#[derive(Drop)]
+#[derive(Clone, Copy)]
 pub struct SystemRead {
     pub ok: bool,
     pub next: usize,

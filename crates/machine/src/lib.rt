@@ -18,7 +18,7 @@ use memory::used::use_of;
 use model::{Angles, Memory, Position, State, Vec3};
 
 // What a call without a lent buffer gives: the next state, and the number (0: accepted).
-#[derive(Drop)]
+#[derive(Clone, Copy)]
 pub struct Begun {
     pub state: State,
     pub number: u8,
@@ -156,7 +156,7 @@ pub fn start_image(bytes: &[u8]) -> Begun
 }
 
 // What the question of use gives: its number, whether the name is in use, and how many systems were looked at.
-#[derive(Drop)]
+#[derive(Clone, Copy)]
 pub struct Use {
     pub number: u8,
     pub used: bool,

@@ -17,7 +17,7 @@ use model::{Enabled, Group, Memory, Name, System};
 use text::names::same_bytes;
 
 // What a name means: the user system at a place, a group's fixed system, or nothing, which number 7 says.
-#[derive(Drop)]
+#[derive(Clone, Copy)]
 pub enum Found {
     User(u8),
     Fixed(Group),
@@ -25,7 +25,7 @@ pub enum Found {
 }
 
 // Where two names stand: their places, 0 where no user system has the name, and the systems there, blank ones at place 0. The links lie beside them.
-#[derive(Drop)]
+#[derive(Clone, Copy)]
 pub struct Places {
     pub first: u8,
     pub one: System,

@@ -1,7 +1,7 @@
 // The types that the code and the definitions share. There is no code here; the definitions are in specs/.
 
 // A signed coordinate axis.
-#[derive(Drop)]
+#[derive(Clone, Copy)]
 pub enum Dir {
     Px,
     Nx,
@@ -12,7 +12,7 @@ pub enum Dir {
 }
 
 // A rotation by rows: which signed coordinate of the argument each coordinate of the result is.
-#[derive(Drop)]
+#[derive(Clone, Copy)]
 pub struct Rot {
     pub a: Dir,
     pub b: Dir,
@@ -20,7 +20,7 @@ pub struct Rot {
 }
 
 // An offset, in millionths of a millimetre.
-#[derive(Drop)]
+#[derive(Clone, Copy)]
 pub struct Vec3 {
     pub x: i64,
     pub y: i64,
@@ -28,7 +28,7 @@ pub struct Vec3 {
 }
 
 // Quarter turns about X, Y and Z.
-#[derive(Drop)]
+#[derive(Clone, Copy)]
 pub struct Turns {
     pub u: u8,
     pub v: u8,
@@ -36,7 +36,7 @@ pub struct Turns {
 }
 
 // The types of user systems.
-#[derive(Drop)]
+#[derive(Clone, Copy)]
 pub enum Kind {
     Ksd,
     Kst,
@@ -46,7 +46,7 @@ pub enum Kind {
     Ksf,
 }
 
-#[derive(Drop)]
+#[derive(Clone, Copy)]
 pub enum Group {
     Operating,
     Orientational,
@@ -54,13 +54,13 @@ pub enum Group {
 }
 
 // The enabled operating part: one system, or a work and a tool half. Systems are given by their places.
-#[derive(Drop)]
+#[derive(Clone, Copy)]
 pub enum OperatingPart {
     Single(u8),
     Pair(u8, u8),
 }
 
-#[derive(Drop)]
+#[derive(Clone, Copy)]
 pub struct Enabled {
     pub operating: OperatingPart,
     pub orientational: u8,
@@ -68,14 +68,14 @@ pub struct Enabled {
 }
 
 // A name: the first len bytes.
-#[derive(Drop)]
+#[derive(Clone, Copy)]
 pub struct Name {
     pub bytes: [u8; 16],
     pub len: u8,
 }
 
 // A user system as it is stored. Its predecessor is a place: 0 is the group's fixed system, k the k-th user system.
-#[derive(Drop)]
+#[derive(Clone, Copy)]
 pub struct System {
     pub kind: Kind,
     pub name: Name,
@@ -85,7 +85,7 @@ pub struct System {
 }
 
 // A memory as it is stored: the first count systems.
-#[derive(Drop)]
+#[derive(Clone, Copy)]
 pub struct Memory {
     pub systems: [System; 16],
     pub count: u8,
@@ -93,7 +93,7 @@ pub struct Memory {
 }
 
 // Angles about X, Y and Z, in millionths of a degree.
-#[derive(Drop)]
+#[derive(Clone, Copy)]
 pub struct Angles {
     pub u: i64,
     pub v: i64,
@@ -101,14 +101,14 @@ pub struct Angles {
 }
 
 // Where the platform stands.
-#[derive(Drop)]
+#[derive(Clone, Copy)]
 pub struct Position {
     pub offset: Vec3,
     pub angles: Angles,
 }
 
 // The state as it is stored.
-#[derive(Drop)]
+#[derive(Clone, Copy)]
 pub struct State {
     pub volatile: Memory,
     pub permanent: Memory,

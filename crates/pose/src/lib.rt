@@ -8,7 +8,7 @@ use model::{Dir, Rot, Turns, Vec3};
 pub mod rotation; // rotation.rt: rotations by rows, and the triples of quarter turns that name them
 
 // A point q of the system, as a column, stands at `at + rot·q` in the predecessor's axes.
-#[derive(Drop)]
+#[derive(Clone, Copy)]
 pub struct Pose {
     pub at: Vec3,
     pub rot: Rot,

@@ -9,7 +9,7 @@ use model::Kind;
 use text::words::{Word, is_word};
 
 // How arguments are read, and what is asked if they have that form.
-#[derive(Drop)]
+#[derive(Clone, Copy)]
 pub enum Form {
     NoCommand,
     // a name and axis pairs

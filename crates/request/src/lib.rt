@@ -12,7 +12,7 @@ use model::{Kind, Name, Turns, Vec3};
 use text::words::next_word;
 
 // What is asked, or why nothing is: no command, arguments of another form, a value out of range.
-#[derive(Drop)]
+#[derive(Clone, Copy)]
 pub enum Asked {
     Unknown,
     Malformed,
@@ -38,7 +38,7 @@ pub enum Asked {
 }
 
 // What is asked, with its names and values. Those that it has no use for are empty and 0.
-#[derive(Drop)]
+#[derive(Clone, Copy)]
 pub struct Request {
     pub asked: Asked,
     pub first: Name,

@@ -10,7 +10,7 @@ use crate::parse::LONGEST_LINE;
 use libc::{STDERR_FILENO, STDIN_FILENO, STDOUT_FILENO};
 
 // What a block left: the script, and whether its answers could be written.
-#[derive(Drop)]
+#[derive(Clone, Copy)]
 pub struct Served {
     pub script: Script,
     pub ok: bool,

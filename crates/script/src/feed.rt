@@ -16,7 +16,7 @@ const BESIDE: usize = 5;
 const LONGEST_ANSWER: usize = 2 * LONGEST_LENT + BESIDE;
 
 // Between two lines: the state, the number of the next line, and how many bytes of an unfinished line are held.
-#[derive(Drop)]
+#[derive(Clone, Copy)]
 pub struct Script {
     pub state: State,
     pub line: u64,
@@ -24,7 +24,7 @@ pub struct Script {
 }
 
 // What a block left: the script, how many of its bytes were used, and how many bytes of answers were written.
-#[derive(Drop)]
+#[derive(Clone, Copy)]
 pub struct Fed {
     pub script: Script,
     pub used: usize,

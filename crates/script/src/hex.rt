@@ -6,7 +6,7 @@ ghost use Rattle.script.specs.Hex.{digit_value, Decodes, glyph, hexed};
 use text::words::between;
 
 // Whether a text spells bytes, and how many were read.
-#[derive(Drop)]
+#[derive(Clone, Copy)]
 pub struct Decoded {
     pub ok: bool,
     pub count: usize,

@@ -13,21 +13,21 @@ const HIGHEST: u64 = i64::MAX as u64;
 const DEEPEST: u64 = HIGHEST + 1;
 
 // What digits spell.
-#[derive(Drop)]
+#[derive(Clone, Copy)]
 pub enum Whole {
     Value(u64),
     Wrong,
 }
 
 // What a word spells that may have a minus.
-#[derive(Drop)]
+#[derive(Clone, Copy)]
 pub enum Number {
     Value(i64),
     Wrong,
 }
 
 // How many numbers were read.
-#[derive(Drop)]
+#[derive(Clone, Copy)]
 pub enum Numbers {
     Count(usize),
     Wrong,

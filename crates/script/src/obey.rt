@@ -16,7 +16,7 @@ use machine::Begun;
 use model::State;
 
 // The next state, and where the answer ends.
-#[derive(Drop)]
+#[derive(Clone, Copy)]
 pub struct Obeyed {
     pub state: State,
     pub end: usize,

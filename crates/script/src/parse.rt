@@ -17,7 +17,7 @@ pub const LONGEST_LINE: usize = 262144;
 pub const LONGEST_LENT: usize = 65536;
 
 // The first count bytes of the lent buffer are the command line, the image or the name.
-#[derive(Drop)]
+#[derive(Clone, Copy)]
 pub enum Directive {
     Line { count: usize, length: usize },
     Restart,

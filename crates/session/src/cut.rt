@@ -5,7 +5,7 @@ ghost use Rattle.session.specs.Feed.{enough, Keeps};
 use facts::limits::ENOUGH;
 
 // The bytes of an unfinished line: the first count. Of a line that is too long, one byte too many is enough.
-#[derive(Drop)]
+#[derive(Clone, Copy)]
 pub struct Kept {
     pub bytes: [u8; ENOUGH],
     pub count: usize,

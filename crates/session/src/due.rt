@@ -5,14 +5,14 @@ ghost use Rattle.commands.specs.Done.{saving};
 use commands::changed::{Deed, saves};
 
 // Whether an accepted WPA is to be stored in a file, and whether a refusal is to be explained.
-#[derive(Drop)]
+#[derive(Clone, Copy)]
 pub struct Manner {
     pub storing: bool,
     pub explaining: bool,
 }
 
 // Whether the image of the permanent memory is to be stored, and the number whose reason is to be told; 0 is none.
-#[derive(Drop)]
+#[derive(Clone, Copy)]
 pub struct Due {
     pub store: bool,
     pub reason: u8,

@@ -18,7 +18,7 @@ use model::State;
 use tally::{Tally, count};
 
 // Between two blocks: the state, the tally of the lines until now, and the bytes of a line that no block has ended yet.
-#[derive(Drop)]
+#[derive(Clone, Copy)]
 pub struct Session {
     pub state: State,
     pub tally: Tally,
@@ -26,7 +26,7 @@ pub struct Session {
 }
 
 // What a block left: the session, how many of its bytes were used, how many bytes of answers were written, and what is due behind them.
-#[derive(Drop)]
+#[derive(Clone, Copy)]
 pub struct Fed {
     pub session: Session,
     pub used: usize,
@@ -35,7 +35,7 @@ pub struct Fed {
 }
 
 // One line answered: the next state, the tally with it, how many bytes were written, and what is due behind them.
-#[derive(Drop)]
+#[derive(Clone, Copy)]
 pub struct Answer {
     pub state: State,
     pub tally: Tally,

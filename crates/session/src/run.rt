@@ -21,7 +21,7 @@ use print::{put_byte, put_decimal, put_text};
 use tally::{Tally, count_in};
 
 // What a run left: the state, the tally, how many bytes of the block were used, how many bytes of answers were written, and what is due behind the last of them.
-#[derive(Drop)]
+#[derive(Clone, Copy)]
 pub struct Ran {
     pub state: State,
     pub tally: Tally,

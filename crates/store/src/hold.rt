@@ -16,7 +16,7 @@ use text::names::same_bytes;
 const TURNS: u32 = 30000;
 
 // The lock is held, by this descriptor; another program has it, and a complaint was made; or none can be made here now, as on a full disk.
-#[derive(Drop)]
+#[derive(Clone, Copy)]
 pub enum Lock {
     Held(i32),
     Taken,
@@ -24,7 +24,7 @@ pub enum Lock {
 }
 
 // The process that a lock names: it still has the lock open; it does not; or that cannot be told.
-#[derive(Drop)]
+#[derive(Clone, Copy)]
 enum Maker {
     Runs,
     Gone,

@@ -15,7 +15,7 @@ pub const LONGEST_IMAGE: usize = 599;
 const ROOM: usize = LONGEST_IMAGE + 1;
 
 // There is no file yet; its bytes, from byte 0 on; or a complaint was made.
-#[derive(Drop)]
+#[derive(Clone, Copy)]
 pub enum Loaded {
     Missing,
     Bytes(usize),
@@ -23,7 +23,7 @@ pub enum Loaded {
 }
 
 // What reading left: so many bytes, or a read failed.
-#[derive(Drop)]
+#[derive(Clone, Copy)]
 enum Filled {
     Bytes(usize),
     Broken,

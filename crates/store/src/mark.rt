@@ -15,7 +15,7 @@ pub(crate) const DIGITS: usize = 20;
 pub(crate) const ROOM: usize = 64;
 
 // Where the digits of PID and of FD end; or that it is no mark.
-#[derive(Drop)]
+#[derive(Clone, Copy)]
 pub(crate) enum Mark {
     Ends(usize, usize),
     Other,

@@ -107,7 +107,7 @@ fn relink(path: &mut [u8], n: usize, text: &[u8]) -> usize
 }
 
 // What is at a path: a link, and then the path that it means has this length; no link; or a link whose path is too long.
-#[derive(Drop)]
+#[derive(Clone, Copy)]
 enum Step {
     To(usize),
     File,

@@ -10,7 +10,7 @@ use print::{put_byte, put_decimal, put_text};
 pub const NUMBERS: usize = 256;
 
 // How many outcomes had each number, 0 the accepted ones; and how many there were in all.
-#[derive(Drop)]
+#[derive(Clone, Copy)]
 pub struct Tally {
     pub counts: [u64; NUMBERS],
     pub total: u64,

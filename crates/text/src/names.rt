@@ -11,7 +11,7 @@ use facts::names::no_name;
 use model::Name;
 
 // The name that a word spells, if it is a legal one. Bytes past the last one are 0.
-#[derive(Drop)]
+#[derive(Clone, Copy)]
 pub struct NameRead {
     pub ok: bool,
     pub name: Name,

@@ -11,7 +11,7 @@ use signed::wide;
 const FIRST_DECIMAL: u64 = MILLION / 10;
 
 // What the bytes of a number read so far are.
-#[derive(Drop)]
+#[derive(Clone, Copy)]
 pub enum Num {
     Start,
     Minus,
@@ -25,7 +25,7 @@ pub enum Num {
 }
 
 // What a whole word says: a number, in millionths, or 5.
-#[derive(Drop)]
+#[derive(Clone, Copy)]
 pub enum Value {
     Millionths(i64),
     Malformed,

@@ -13,7 +13,7 @@ use facts::limits::AXES;
 use model::{Kind, Turns, Vec3};
 
 // What axis pairs say: 5, 6, or the values as they are kept.
-#[derive(Drop)]
+#[derive(Clone, Copy)]
 pub enum Pairs {
     Malformed,
     Beyond,

@@ -6,7 +6,7 @@ ghost use Rattle.model.specs.Words as model;
 ghost use Rattle.text.specs.Cursor.{lead, next_word, word_of, Within};
 
 // The bytes of a word: from start to before end. None is left where the two are equal.
-#[derive(Drop)]
+#[derive(Clone, Copy)]
 pub struct Word {
     pub start: usize,
     pub end: usize,

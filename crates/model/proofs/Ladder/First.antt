@@ -1,6 +1,6 @@
 -- A ladder in the order of the numbers gives the first that applies, and the ladder of every line is in that order.
 use Prim.Native.Nat.{ℕ, ◌≤◌}
-use mathlib.Core.Path.{◌≡◌, refl, sym, ◌∙◌}
+use mathlib.Core.Path.{◌≡◌, refl, sym, subst, ◌∙◌}
 use mathlib.Core.Bool.{Bool, true, false, not, ◌&&◌, ◌||◌}
 use mathlib.Core.List.{List, [], ◌∷◌}
 use mathlib.Core.Logic.{◌⊎◌, inl, inr, ⊎_elim}
@@ -157,7 +157,7 @@ gives (n ∷ ns) (r ∷ rs) once o z =
               applies_later r rs k f
               ∙ ⊎_elim (λ x. rw x (outside ns rs (order_here n ns r rs o e) n (alone n ns once)))
               (λ x. g.none_before k x)
-              (before_on n (first rs) ns k (rw q at h));
+              (before_on n (first rs) ns k (subst (λ m. has (before m (n ∷ ns)) k ≡ true) q h));
         }
 
     nothing : (m : ℕ) → n ≡ m → (k : ℕ) → has (before m (n ∷ ns)) k ≡ true → applies k (r ∷ rs) ≡ false
