@@ -1,4 +1,6 @@
 // A pose: where a system stands and how it is turned; following one pose on from another, and the inverse.
+#![tactic(auto)]
+
 ghost use Rattle.std.specs.Prelude.{◌≡◌};
 ghost use Rattle.model.specs.Pose.{plus, minus, rot_of, origin, neutral, followed, inverse};
 ghost use Rattle.pose.specs.Poses.{pose_of, Within, widest, reach};

@@ -1,3 +1,5 @@
+-- `pose::sum` meets its contract: each sum is of two numbers whose magnitudes add up to one that fits.
+use mathlib.Core.Path.{◌≡◌}
 use Prim.Native.Nat.{◌≤◌}
 use native.Mathlib.Omega.{arith}
 use lib.IntN.{ℤ, nat_abs, ◌+ℤ◌}
@@ -8,27 +10,12 @@ use Rattle.pose.specs.Poses.{reach}
 use Rattle.pose.proofs.Sums.{add_fits, add_reads}
 use Rattle.pose.proofs.sum.Goals as goal
 
--- `pose::sum` meets its contract: each sum is of two numbers whose magnitudes add up to one that fits.
-use mathlib.Core.Path.{◌≡◌}
-
 module _ (p q : ℤ) (hp : nat_abs p ≤ reach) (hq : nat_abs q ≤ reach) where
   fits : SFits w64 (read p +ℤ read q)
   fits = add_fits p q (omega arith)
 
   is : read (read p +ℤ read q) ≡ p +ℤ q
   is = add_reads p q (omega arith)
-
-pub overflow-add-t3 : goal.overflow-add-t3
-overflow-add-t3 c =
-    fits c.args.p.x c.args.q.x c.requires.within.x_within c.requires.within_2.x_within
-
-pub overflow-add-t4 : goal.overflow-add-t4
-overflow-add-t4 c =
-    fits c.args.p.y c.args.q.y c.requires.within.y_within c.requires.within_2.y_within
-
-pub overflow-add-t5 : goal.overflow-add-t5
-overflow-add-t5 c =
-    fits c.args.p.z c.args.q.z c.requires.within.z_within c.requires.within_2.z_within
 
 pub returns : goal.returns
 returns c =

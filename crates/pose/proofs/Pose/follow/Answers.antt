@@ -2,7 +2,6 @@ use Rattle.model.specs.Pose.{plus}
 use Rattle.pose.specs.Poses.{Within, reach}
 use Rattle.pose.proofs.Bounds.{within_turned}
 use Rattle.pose.proofs.Pose.follow.Goals as goal
-
 -- `pose::Pose::follow` meets its contract: a turn keeps the bound that the sum asks for.
 use mathlib.Core.Path.{ap, sym, subst, ◌∙◌}
 
@@ -12,6 +11,6 @@ returns c =
 
 pub sum-at-requires : goal.sum-at-requires
 sum-at-requires c = record {
-      within = c.requires.within;
-      within_2 = subst (Within reach) (sym c.turn-turned.ensures) (within_turned reach c.args.self.rot c.args.own.at c.requires.within_2);
-    }
+  within = c.requires.within;
+  within_2 = subst (Within reach) (sym c.turn-turned.ensures) (within_turned reach c.args.self.rot c.args.own.at c.requires.within_2);
+}

@@ -2,7 +2,6 @@ use native.Mathlib.Omega.{arith}
 use Rattle.model.specs.Pose.{times, quarter_y}
 use Rattle.pose.proofs.Naming.{after_left}
 use Rattle.pose.proofs.rotation.about_y.Goals as goal
-
 -- `pose::rotation::about_y` meets its contract: four quarter turns are none, and each of the others is computed.
 use mathlib.Core.Path.{refl, ◌∙◌}
 

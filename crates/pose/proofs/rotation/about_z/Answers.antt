@@ -2,7 +2,6 @@ use native.Mathlib.Omega.{arith}
 use Rattle.model.specs.Pose.{times, quarter_z}
 use Rattle.pose.proofs.Naming.{times_left}
 use Rattle.pose.proofs.rotation.about_z.Goals as goal
-
 -- `pose::rotation::about_z` meets its contract: four quarter turns are none, and each of the others is computed.
 use mathlib.Core.Path.{refl, sym}
 

@@ -1,7 +1,6 @@
 use Rattle.model.specs.Pose.{after, times, quarter_x, quarter_y, rot_of}
 use Rattle.pose.specs.Types.{Rot}
 use Rattle.pose.proofs.rotation.named.Goals as goal
-
 -- `pose::rotation::named` meets its contract: the three turns, one after the other.
 use mathlib.Core.Path.{ap, ◌∙◌}
 

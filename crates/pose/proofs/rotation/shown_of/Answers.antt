@@ -1,3 +1,5 @@
+-- `pose::rotation::shown_of` meets its contract: one computed test shows what the first two axes say to be right of every three.
+use mathlib.Core.Path.{◌≡◌, sym, ap, ◌∙◌}
 use mathlib.Core.Bool.{Bool, cond, ◌&&◌}
 use Prim.Native.Nat.{ℕ, ◌+◌, ◌*◌, ◌/◌, ◌%◌, ◌<◌}
 use native.Mathlib.Omega.{arith}
@@ -12,9 +14,6 @@ use Rattle.pose.specs.Numbers.{first_axes, first_place, first_named}
 use Rattle.pose.proofs.Naming.{rot_number, rot_at, rot_at_number, axis_number_below}
 use Rattle.pose.proofs.rotation.shown_of.Goals.{After-first_named-first}
 use Rattle.pose.proofs.rotation.shown_of.Goals as goal
-
--- `pose::rotation::shown_of` meets its contract: one computed test shows what the first two axes say to be right of every three.
-use mathlib.Core.Path.{◌≡◌, sym, ap, ◌∙◌}
 
 same_turns : Turns → Turns → Bool
 same_turns s t = eqb s.u t.u && (eqb s.v t.v && eqb s.w t.w)
@@ -48,11 +47,11 @@ by_axes_lem r =
     (λ k. by_axes (i k) (j k)) ∙ entry n (omega arith) ∙ ap shown (rot_at_number r)
 
 -- what was read of the first two axes
-first_is : (c : After-first_named-first) → c.first_named_lem.result ≡ first_named (first_axes c.args.r)
+first_is : (c : After-first_named-first) → c.first_named-first.result ≡ first_named (first_axes c.args.r)
 first_is c =
     let i = c.number-i.ensures.0 in
     let j = c.number-j.ensures.0 in
-    c.first_named_lem.ensures ∙ (λ k. first_named (i k * 6 + j k))
+    c.first_named-first.ensures ∙ (λ k. first_named (i k * 6 + j k))
 
 pub returns-then-first-k : goal.returns-then-first-k
 returns-then-first-k c =
