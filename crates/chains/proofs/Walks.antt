@@ -8,7 +8,7 @@ use native.Mathlib.Omega.{arith}
 use native.Mathlib.Numerals.{sub-one}
 use lib.ListN.{length, get_or, length-map, get_or-map}
 use Rattle.model.specs.Memory.{System, system_at}
-use Rattle.model.specs.Chain.{pred_of, hop, chain, no_ring}
+use Rattle.model.specs.Chain.{pred_of, hop, no_ring}
 use Rattle.model.proofs.Basics.{either}
 use Rattle.model.proofs.Chains.Hops.{hop_zero, ring_free, ring_free_from}
 use Rattle.chains.specs.Flat.{linked_to, linked_by}

@@ -1,5 +1,5 @@
 -- Walks along flat links that look for a place, and what they give.
-use Rattle.std.specs.Prelude.{ℕ, zero, suc, ◌+◌, List, [], ◌∷◌, ◌++◌, Bool, cond, eqb}
+use Rattle.std.specs.Prelude.{ℕ, zero, suc, List, [], ◌∷◌, ◌++◌, Bool, cond, eqb}
 use Rattle.model.specs.declared.Group.{Group}
 use Rattle.model.specs.declared.Group.TheVariants.{Operating, Orientational, Levelling}
 use Rattle.model.specs.declared.OperatingPart.{OperatingPart}
