@@ -1,4 +1,6 @@
 // The reason of a refusal in words, for whoever sits at a terminal.
+#![tactic(auto)]
+
 ghost use Rattle.std.specs.Prelude.{◌+◌, ◌≤◌, length};
 ghost use Rattle.model.specs.Limits.{buffer_limit};
 ghost use Rattle.model.specs.Reasons.{later_reason, reason, reason_line};

@@ -1,4 +1,6 @@
 // A day's tally: how many lines were accepted, how many were refused under each number, and how many there were.
+#![tactic(auto)]
+
 ghost use Rattle.std.specs.Prelude.{◌≡◌, ◌+◌, ◌≤◌, length, drop};
 ghost use Rattle.model.specs.Tally.{empty_tally, counted, Sums, tally_line, refused_line, refused_lines, tally_text};
 ghost use Rattle.print.specs.Over.{Wrote};

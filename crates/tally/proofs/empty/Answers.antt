@@ -4,11 +4,7 @@ use mathlib.Core.List.{List}
 use Prim.Native.Nat.{ℕ}
 use Rattle.model.specs.Tally.{Tally}
 use Rattle.tally.proofs.Trimming.{trimmed_zeros}
-use Rattle.tally.proofs.empty.Statement.{statement}
-use Rattle.tally.proofs.empty.Tie as tie
+use Rattle.tally.proofs.empty.Goals as goal
 
-returns : tie.Need-returns
+pub returns : goal.returns
 returns c = ap {B = Tally} (λ (cs : List ℕ). record { counts = cs; total = 0 }) (trimmed_zeros 256)
-
-pub empty_spec : {M : Type 1} → statement M
-empty_spec = tie.close (tie.spec returns)
