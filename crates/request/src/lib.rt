@@ -1,4 +1,6 @@
 // What a line asks for.
+#![tactic(auto)]
+
 mod arguments;
 mod command;
 pub mod printable;

@@ -1,0 +1,5 @@
+use Rattle.request.proofs.Words.{none_left}
+use Rattle.request.proofs.arguments.ended.Goals as goal
+
+pub returns : goal.returns
+returns c = none_left _ _ _ c.next_word-w.ensures
