@@ -1,4 +1,6 @@
 // The memories of the machine: finding a system by its name, the test for well-formedness, and the edits.
+#![tactic(auto)]
+
 pub mod distinct;
 pub mod edit;
 pub mod enable;

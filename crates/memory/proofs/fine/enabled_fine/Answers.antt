@@ -1,0 +1,6 @@
+use Rattle.model.specs.WellFormed.{enabled_fine}
+use Rattle.memory.proofs.fine.enabled_fine.Goals as goal
+
+pub returns : goal.returns
+unfolding enabled_fine
+returns c = λ l e. rw (c.operating_fine.ensures l e, c.is_kind.ensures l e, c.is_kind-2.ensures l e)
