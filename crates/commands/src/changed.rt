@@ -57,6 +57,7 @@ pub fn refused(number: u8) -> Decision
 }
 
 // Whether it saves: the volatile memory goes into the permanent one's place.
+#[tactic(auto, unfolding(crate::specs::Done::saving))]
 pub fn saves(deed: Deed) -> bool
     ensures { result ≡ saving deed }
 {
@@ -74,6 +75,7 @@ pub fn saves(deed: Deed) -> bool
 }
 
 // Whether it removes a system.
+#[tactic(auto, unfolding(crate::specs::Done::removing))]
 fn removes(deed: Deed) -> bool
     ensures { result ≡ removing deed }
 {

@@ -1,4 +1,6 @@
 // The changes that command lines ask for: the memory is looked at once, the ladder of numbers judges, and what is to be done is decided.
+#![tactic(auto)]
+
 pub mod numbers; // numbers.rt: the ladder's numbers, and the first that applies
 pub mod subject; // subject.rt: what is asked of two names and of the links, from one look at the memory
 pub mod conditions; // conditions.rt: the conditions of the numbers, over what was seen

@@ -1,0 +1,13 @@
+use mathlib.Core.Path.{refl}
+use Rattle.model.specs.Request.{save}
+use Rattle.model.specs.Refusals.{first, change_ladder}
+use Rattle.model.specs.Effects.{changed}
+use Rattle.model.specs.Checklist.{asks_to_save}
+use Rattle.commands.specs.declared.changed.Deed.TheVariants.{Save}
+use Rattle.commands.specs.Done.{done, Fits, saving, removing}
+use Rattle.commands.proofs.Carried.{decides_accepted}
+use Rattle.commands.proofs.whole.save.Goals as goal
+
+pub returns : goal.returns
+unfolding change_ladder first changed done Fits saving removing asks_to_save
+returns c = λ s. decides_accepted s save 0 refl c.accepted.result Save refl c.accepted.ensures tt refl refl refl
