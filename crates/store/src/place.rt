@@ -113,24 +113,17 @@ enum Step {
     Long,
 }
 
-// No link's text could be read: there is no link, or one whose text has no room here, as it is no UTF-8.
-fn unread(rt: HostRuntime, path: &[u8]) -> Step
-    ensures { Steps [] result }
-{
-    if is_symlink(rt, path) {
-        return Step::Long;
-    }
-    Step::File
-}
-
-// One link is followed, in place.
+// One link is followed, in place. One whose text cannot be had, as it is no UTF-8, has no room here either.
 fn follow(rt: HostRuntime, path: &mut [u8], n: usize) -> Step
     requires { n ≤ length path.old }
     ensures { Steps path.new result }
 {
     let mut text = io::buffer();
     let Ok(k) = link_text(rt, &path[..n], &mut text) else {
-        return unread(rt, &path[..n]);
+        if is_symlink(rt, &path[..n]) {
+            return Step::Long;
+        }
+        return Step::File;
     };
     let m = relink(path, n, &text[..k]);
     if m == 0 {

@@ -19,16 +19,20 @@ pub fn complain(rt: HostRuntime, path: &[u8], text: &[u8]) {
     say(rt, b"\n");
 }
 
-// A line that ends in the system's words for an error: std puts the error's number behind them, which is left out here.
+// An error's text without the number that std puts behind the system's words.
+fn words(whole: &str) -> &str {
+    match whole.split_once(" (os error ") {
+        Some((words, _)) => words,
+        None => whole,
+    }
+}
+
+// A line that ends in the system's words for an error.
 pub fn fail(rt: HostRuntime, text: &[u8], why: Error) {
     let whole: InlineText<128> = InlineText::of(why);
-    let words = match whole.as_str().split_once(" (os error ") {
-        Some((words, _)) => words,
-        None => whole.as_str(),
-    };
     say(rt, text);
     say(rt, b": ");
-    say(rt, words.as_bytes());
+    say(rt, words(whole.as_str()).as_bytes());
     say(rt, b"\n");
 }
 
