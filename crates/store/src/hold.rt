@@ -39,12 +39,7 @@ enum Maker {
 }
 
 // What the system shows for a descriptor of a process: the path of its file.
-fn shown(
-    rt: HostRuntime,
-    process: &[u8],
-    number: &[u8],
-    out: &mut [u8],
-) -> std::io::Result<usize>
+fn shown(rt: HostRuntime, process: &[u8], number: &[u8], out: &mut [u8]) -> std::io::Result<usize>
     requires { Short process.now number.now }
     ensures { ReadsAtMost result out.new }
 {
@@ -163,14 +158,7 @@ fn read_lock(file: &File, out: &mut [u8]) -> usize
 }
 
 // Whether the lock that is open here was left behind, by its mark, whose numbers end at these places; else a complaint is made.
-fn marked_left(
-    rt: HostRuntime,
-    path: &[u8],
-    mark: &[u8],
-    a: usize,
-    b: usize,
-    file: &File,
-) -> bool
+fn marked_left(rt: HostRuntime, path: &[u8], mark: &[u8], a: usize, b: usize, file: &File) -> bool
     requires { Marked mark.now (Mark.Ends a b) }
 {
     let from = a + 1;

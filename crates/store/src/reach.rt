@@ -81,7 +81,10 @@ pub(crate) fn open_read(rt: HostRuntime, path: &[u8]) -> std::io::Result<File> {
 // Makes the file, for writing, where none has its name.
 pub(crate) fn create(rt: HostRuntime, path: &[u8]) -> std::io::Result<File> {
     let text = text_of(path)?;
-    OpenOptions::new().write(true).create_new(true).open(&rt, text)
+    OpenOptions::new()
+        .write(true)
+        .create_new(true)
+        .open(&rt, text)
 }
 
 // The name goes.

@@ -1,5 +1,4 @@
 -- `digits_end`: what is left to pass of the digits at place `from`.
-use Prim.Native.Nat.{◌-◌}
 use mathlib.Core.Path.{sym, ◌∙◌}
 use native.Mathlib.Omega.{arith}
 use Rattle.store.proofs.Marks.{digit_next, digit_stop, digit_end}
@@ -19,6 +18,6 @@ loop-i-preserved c =
 
 pub returns : goal.returns
 returns c = record {
-      value = omega (arith, digit_end c.args.text.now c.loop-i.i c.loop-i-test.false);
-      upper_bound = omega arith;
-    }
+  value = omega (arith, digit_end c.args.text.now c.loop-i.i c.loop-i-test.false);
+  upper_bound = omega arith;
+}

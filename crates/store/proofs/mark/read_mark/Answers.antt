@@ -1,9 +1,8 @@
 -- `read_mark`: a first number, a second one, and nothing behind it.
-use Prim.Native.Nat.{ℕ, ◌+◌, ◌<◌}
-use mathlib.Core.Path.{◌≡◌, refl, ◌∙◌}
-use mathlib.Core.List.{List}
+use Prim.Native.Nat.{◌+◌, ◌<◌}
+use mathlib.Core.Path.{refl, ◌∙◌}
 use native.Mathlib.Omega.{arith}
-use Rattle.store.specs.Mark.{number_end, mark_at, mark_of}
+use Rattle.store.specs.Mark.{number_end}
 use Rattle.store.proofs.Ends.{mark_none, mark_half, mark_more, mark_both, mark_of_lem}
 use Rattle.store.proofs.mark.read_mark.Goals as goal
 
@@ -24,15 +23,15 @@ number_end-b-requires c = omega (arith, c.number_end-a.ensures.ends_at (omega ar
 
 pub returns-then-b-eq0 : goal.returns-then-b-eq0
 returns-then-b-eq0 c = record {
-      value = mark_half c.args.text.now c.number_end-a.result c.number_end-b.result c.if-b-eq0.true ∙ mark_of_lem c.args.text.now c.number_end-a.result c.number_end-b.result c.number_end-a.ensures.value c.number_end-b.ensures.value;
-      marked = tt;
-    }
+  value = mark_half c.args.text.now c.number_end-a.result c.number_end-b.result c.if-b-eq0.true ∙ mark_of_lem c.args.text.now c.number_end-a.result c.number_end-b.result c.number_end-a.ensures.value c.number_end-b.ensures.value;
+  marked = tt;
+}
 
 pub returns-then-b-text : goal.returns-then-b-text
 returns-then-b-text c = record {
-      value = mark_more c.args.text.now c.number_end-a.result c.number_end-b.result c.if-b-text.true ∙ mark_of_lem c.args.text.now c.number_end-a.result c.number_end-b.result c.number_end-a.ensures.value c.number_end-b.ensures.value;
-      marked = tt;
-    }
+  value = mark_more c.args.text.now c.number_end-a.result c.number_end-b.result c.if-b-text.true ∙ mark_of_lem c.args.text.now c.number_end-a.result c.number_end-b.result c.number_end-a.ensures.value c.number_end-b.ensures.value;
+  marked = tt;
+}
 
 pub returns : goal.returns
 returns c =

@@ -8,9 +8,9 @@ use Rattle.store.proofs.place.alone.Goals as goal
 
 pub returns-then-out-text : goal.returns-then-out-text
 returns-then-out-text c = record {
-      placed = unplaced _ _ c.if-out-text.true;
-      prefix_len = search rules;
-    }
+  placed = unplaced _ _ c.if-out-text.true;
+  prefix_len = search rules;
+}
 
 pub returns : goal.returns
 returns c =

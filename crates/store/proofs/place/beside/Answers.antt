@@ -10,15 +10,15 @@ use Rattle.store.proofs.place.beside.Goals as goal
 
 pub returns-then-out-path : goal.returns-then-out-path
 returns-then-out-path c = record {
-      placed = unplaced _ _ (rw length-append (omega (arith, c.if-out-path.true)));
-      prefix_len = search rules;
-    }
+  placed = unplaced _ _ (rw length-append (omega (arith, c.if-out-path.true)));
+  prefix_len = search rules;
+}
 
 pub returns-then-out-path-2 : goal.returns-then-out-path-2
 returns-then-out-path-2 c = record {
-      placed = unplaced _ _ (rw length-append (omega arith));
-      prefix_len = search rules;
-    }
+  placed = unplaced _ _ (rw length-append (omega arith));
+  prefix_len = search rules;
+}
 
 pub returns : goal.returns
 returns c =

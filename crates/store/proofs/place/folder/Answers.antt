@@ -1,24 +1,24 @@
 -- `folder`: no '/', one as the first byte, or a later one.
-use Prim.Native.Nat.{◌-◌, ◌<◌}
+use Prim.Native.Nat.{◌<◌}
 use mathlib.Core.Path.{sym, ◌∙◌}
 use native.Mathlib.Omega.{arith}
-use Rattle.store.specs.Place.{slash_end, folder_of}
+use Rattle.store.specs.Place.{folder_of}
 use Rattle.store.proofs.Placing.{folder_deep}
 use Rattle.store.proofs.place.folder.Goals as goal
 
 pub returns-then-end-eq0 : goal.returns-then-end-eq0
 unfolding folder_of
 returns-then-end-eq0 c = record {
-      placed = rw (sym c.slash_end-end.ensures.value ∙ c.if-end-eq0.true) c.alone.ensures.placed;
-      prefix_len = c.alone.ensures.prefix_len;
-    }
+  placed = rw (sym c.slash_end-end.ensures.value ∙ c.if-end-eq0.true) c.alone.ensures.placed;
+  prefix_len = c.alone.ensures.prefix_len;
+}
 
 pub returns-then-end-eq1 : goal.returns-then-end-eq1
 unfolding folder_of
 returns-then-end-eq1 c = record {
-      placed = rw (sym c.slash_end-end.ensures.value ∙ c.if-end-eq1.true) c.alone-then-end-eq1.ensures.placed;
-      prefix_len = c.alone-then-end-eq1.ensures.prefix_len;
-    }
+  placed = rw (sym c.slash_end-end.ensures.value ∙ c.if-end-eq1.true) c.alone-then-end-eq1.ensures.placed;
+  prefix_len = c.alone-then-end-eq1.ensures.prefix_len;
+}
 
 pub returns : goal.returns
 unfolding folder_of

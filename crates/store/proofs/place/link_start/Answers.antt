@@ -1,6 +1,5 @@
 -- `link_start`: the text begins at the root, or it does not.
 use mathlib.Core.Path.{sym, ◌∙◌}
-use mathlib.Core.Bool.{true, false}
 use native.Mathlib.Omega.{arith}
 use Rattle.store.specs.Place.{link_start}
 use Rattle.store.proofs.place.link_start.Goals as goal
@@ -8,9 +7,9 @@ use Rattle.store.proofs.place.link_start.Goals as goal
 pub returns-then-rooted : goal.returns-then-rooted
 unfolding link_start
 returns-then-rooted c = let e = sym c.rooted.ensures ∙ c.if-rooted.true in record {
-      value = rw e;
-      upper_bound = omega arith;
-    }
+  value = rw e;
+  upper_bound = omega arith;
+}
 
 pub returns : goal.returns
 unfolding link_start

@@ -1,7 +1,6 @@
 -- `relink`: the link's text fits behind what is kept of the path, or it does not.
-use Prim.Native.Nat.{ℕ, ◌+◌, ◌≤◌}
+use Prim.Native.Nat.{◌+◌, ◌≤◌}
 use mathlib.Core.Path.{sym}
-use mathlib.Core.List.{List}
 use native.Mathlib.Omega.{arith}
 use borrow.Author.Rules.{rules}
 use lib.ListN.{length}
@@ -17,9 +16,9 @@ slice_bounds-link_start-end-2 c = sym (length-take-le _ _ c.requires)
 pub returns-then-path-start : goal.returns-then-path-start
 unfolding target_of
 returns-then-path-start c = record {
-      placed = rw (← c.link_start-start.ensures.value) (unplaced_behind c.args.path.now c.args.text.now c.args.n c.link_start-start.result c.requires (omega (arith, c.link_start-start.ensures.upper_bound, length-take-le c.args.n c.args.path.now c.requires)) c.if-path-start.true);
-      prefix_len = search rules;
-    }
+  placed = rw (← c.link_start-start.ensures.value) (unplaced_behind c.args.path.now c.args.text.now c.args.n c.link_start-start.result c.requires (omega (arith, c.link_start-start.ensures.upper_bound, length-take-le c.args.n c.args.path.now c.requires)) c.if-path-start.true);
+  prefix_len = search rules;
+}
 
 room : (c : Else-path-start) → c.link_start-start.result + length c.args.text.now ≤ length c.args.path.now
 room c =

@@ -1,5 +1,4 @@
 -- `settle`: the path stands first in its buffer, and the links that may still be followed get fewer.
-use Prim.Native.Nat.{◌-◌}
 use mathlib.Core.Path.{◌≡◌, ◌∙◌}
 use native.Mathlib.Omega.{arith}
 use borrow.Author.Rules.{rules}
