@@ -1,4 +1,7 @@
 // ksrun at a terminal or in a pipe: every complete line is answered before more input is waited for, and behind the last answer comes the day's tally.
+
+#![tactic(auto)]
+
 ghost use Rattle.std.specs.Prelude.{◌≡◌, ◌≤◌, length};
 ghost use Rattle.model.specs.Limits.{buffer_limit};
 ghost use Rattle.model.specs.Tally.{tally_text};
@@ -7,7 +10,6 @@ ghost use Rattle.session.specs.Feed.{ended, closing};
 ghost use Rattle.session.specs.Blocks.{held_of, Between};
 ghost use Rattle.console.specs.Serve.{given, Serves};
 
-#![tactic(auto)]
 use session::due::Manner;
 use session::feed::{Session, begin, feed, finish};
 use std::io::{Print, Read};

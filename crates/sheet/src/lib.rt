@@ -1,10 +1,12 @@
 // The sheet of all triples of quarter turns, as they are typed and as they are shown. There is no table here: triples and what they are shown as come from
 // `pose`, and numbers are written by `print`, as they are for `ksrun`.
+
+#![tactic(auto)]
+
 ghost use Rattle.std.specs.Prelude.{◌≡◌, ◌+◌, ◌≤◌, length};
 ghost use Rattle.model.specs.Sheet.{whole_degrees, sheet_line, sheet, angles};
 ghost use Rattle.print.specs.Over.{Wrote};
 
-#![tactic(auto)]
 use facts::limits::{MILLION, QUARTER_TURN};
 use model::Turns;
 use pose::rotation::{named, shown_of, triple_at};
