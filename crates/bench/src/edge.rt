@@ -7,10 +7,11 @@ ghost use Rattle.session.specs.Feed.{ended_acts};
 ghost use Rattle.session.specs.Blocks.{held_of, manner_of};
 ghost use Rattle.bench.specs.Serve.{given, outgoing, Hands};
 
-use libc::{STDERR_FILENO, STDOUT_FILENO};
 use reasons::put_reason;
 use session::due::{Due, Manner};
 use session::feed::Session;
+use std::fs::File;
+use std::io::Print;
 use store::save::save;
 
 // The receipt: all that is due for a block up to this place was handed out. The place is this module's own.
@@ -39,47 +40,55 @@ pub(crate) fn nothing_handed() -> Receipt
     Receipt { at: 0 }
 }
 
-fn write_reason(number: u8, text: &[u8])
+fn write_reason(rt: HostRuntime, number: u8, text: &[u8])
     requires { text.now ≡ reason_line number }
 {
-    io::write_all(STDERR_FILENO, text);
+    let _ = Print::write_all(&rt.stderr(), text);
 }
 
-fn explain(number: u8) {
+fn explain(rt: HostRuntime, number: u8) {
     let mut text = io::buffer();
     let n = put_reason(number, &mut text);
-    write_reason(number, &text[..n]);
+    write_reason(rt, number, &text[..n]);
 }
 
-fn write_answers(answers: &[u8]) -> bool {
-    if io::write_all(STDOUT_FILENO, answers) {
+fn write_answers(rt: HostRuntime, answers: &[u8]) -> bool {
+    if Print::write_all(&rt.stdout(), answers).is_ok() {
         return true;
     }
-    io::write_all(
-        STDERR_FILENO,
+    let _ = Print::write_all(
+        &rt.stderr(),
         b"ksbench: standard output cannot be written\n",
     );
     false
 }
 
 // Answers to standard output, then the image to the file, then the reason to standard error. What fails has said so, and nothing is done after it.
-fn hand_out(path: &[u8], answers: &[u8], due: Due, image: &[u8], lock: i32) -> bool {
-    if !write_answers(answers) {
+fn hand_out(
+    rt: HostRuntime,
+    path: &[u8],
+    answers: &[u8],
+    due: Due,
+    image: &[u8],
+    lock: Option<&File>,
+) -> bool {
+    if !write_answers(rt, answers) {
         return false;
     }
     if due.store {
-        if !save(path, lock, image) {
+        if !save(rt, path, lock, image) {
             return false;
         }
     }
     if due.reason != 0 {
-        explain(due.reason);
+        explain(rt, due.reason);
     }
     true
 }
 
 // For a block of a session s, from the receipt's place on up to another.
 pub(crate) fn hand_out_part(
+    rt: HostRuntime,
     k: Manner,
     s: Session,
     block: &[u8],
@@ -89,12 +98,12 @@ pub(crate) fn hand_out_part(
     answers: &[u8],
     due: Due,
     image: &[u8],
-    lock: i32,
+    lock: Option<&File>,
 ) -> Handed
     requires { (given k s (take end block.now)).output ≡ (given k s (take before.at block.now)).output ++ outgoing answers.now due image.now }
     ensures { Hands end result }
 {
-    let ok = hand_out(path, answers, due, image, lock);
+    let ok = hand_out(rt, path, answers, due, image, lock);
     if ok {
         let receipt = Receipt { at: end };
         return Handed { receipt, ok: true };
@@ -107,16 +116,17 @@ pub(crate) fn hand_out_part(
 
 // For the end of the input, where what is held is a line.
 pub(crate) fn hand_out_last(
+    rt: HostRuntime,
     k: Manner,
     s: Session,
     path: &[u8],
     answers: &[u8],
     due: Due,
     image: &[u8],
-    lock: i32,
+    lock: Option<&File>,
 ) -> Last
     requires { ended_acts (manner_of k) (held_of s) ≡ outgoing answers.now due image.now }
 {
-    let done = hand_out(path, answers, due, image, lock);
+    let done = hand_out(rt, path, answers, due, image, lock);
     Last { done }
 }

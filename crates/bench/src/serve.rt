@@ -9,6 +9,7 @@ use crate::edge::{Last, Receipt, hand_out_last, hand_out_part, nothing_handed};
 use model::State;
 use session::due::{Due, Manner};
 use session::feed::{Session, feed, finish};
+use std::fs::File;
 
 // What a block left: the session, the receipt for what was handed out, and whether all that was due could be done.
 #[derive(Clone, Copy)]
@@ -31,15 +32,16 @@ fn put_image(due: Due, s: State, out: &mut [u8]) -> usize
     0
 }
 
-// A block is fed until all of it is used, in a manner that stores. out takes answers, and image an image; lock is the file's.
+// A block is fed until all of it is used, in a manner that stores. out takes answers, and image an image; lock is the file's, if there is one.
 pub fn serve(
+    rt: HostRuntime,
     k: Manner,
     s: Session,
     path: &[u8],
     block: &[u8],
     out: &mut [u8],
     image: &mut [u8],
-    lock: i32,
+    lock: Option<&File>,
 ) -> Served
     requires between { Between s }
     requires buffer_limit_in_bounds { buffer_limit ≤ length out.old }
@@ -59,6 +61,7 @@ pub fn serve(
         let state = after.state;
         let size = put_image(due, state, image);
         let handed = hand_out_part(
+            rt,
             k,
             s,
             block,
@@ -90,12 +93,13 @@ pub fn serve(
 
 // The end of the input.
 pub fn serve_last(
+    rt: HostRuntime,
     k: Manner,
     s: Session,
     path: &[u8],
     out: &mut [u8],
     image: &mut [u8],
-    lock: i32,
+    lock: Option<&File>,
 ) -> Last
     requires between { Between s }
     requires buffer_limit_in_bounds { buffer_limit ≤ length out.old }
@@ -107,5 +111,5 @@ pub fn serve_last(
     let due = last.due;
     let state = last.state;
     let size = put_image(due, state, image);
-    hand_out_last(k, s, path, &out[..written], due, &image[..size], lock)
+    hand_out_last(rt, k, s, path, &out[..written], due, &image[..size], lock)
 }

@@ -44,12 +44,13 @@ fn stopped() -> Started
 }
 
 // The bytes that were found, or a word on why they are no image. The file stays as it is.
-fn start_found(path: &[u8], bytes: &[u8]) -> Started
+fn start_found(rt: HostRuntime, path: &[u8], bytes: &[u8]) -> Started
     ensures { StartsWith (some bytes.now) result }
 {
     let started = start_from(bytes);
     if !started.ok {
         complain(
+            rt,
             path,
             b"refused (14): it is no image; the file is left as it is",
         );
@@ -57,22 +58,22 @@ fn start_found(path: &[u8], bytes: &[u8]) -> Started
     started
 }
 
-fn start_new(path: &[u8]) -> Started
+fn start_new(rt: HostRuntime, path: &[u8]) -> Started
     ensures { StartsWith none result }
 {
-    complain(path, b"no such file yet: starting at the factory");
+    complain(rt, path, b"no such file yet: starting at the factory");
     start_without()
 }
 
 // The file of this path; linked says that a link led there.
-pub fn start(path: &[u8], linked: bool) -> Started
+pub fn start(rt: HostRuntime, path: &[u8], linked: bool) -> Started
     ensures { Between result.session }
 {
     let mut bytes = io::buffer();
-    let loaded = load(path, linked, &mut bytes);
+    let loaded = load(rt, path, linked, &mut bytes);
     match loaded {
-        Loaded::Missing => start_new(path),
-        Loaded::Bytes(n) => start_found(path, &bytes[..n]),
+        Loaded::Missing => start_new(rt, path),
+        Loaded::Bytes(n) => start_found(rt, path, &bytes[..n]),
         Loaded::Failed => stopped(),
     }
 }

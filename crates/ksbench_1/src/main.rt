@@ -1,4 +1,6 @@
 // The bench's own program: ksbench IMAGE.
-fn main() {
-    bench::run::run()
+#![tactic(auto)]
+
+fn main(rt: HostRuntime) {
+    bench::run::run(rt)
 }

@@ -1,4 +1,6 @@
 // The coordinate program of the bench: command lines on standard input, replies on standard output, and behind the last of them the day's tally.
-fn main() {
-    console::run()
+#![tactic(auto)]
+
+fn main(rt: HostRuntime) {
+    console::run(rt)
 }

@@ -1,4 +1,6 @@
 // ksrun on a session of the shared vectors, as it is: its last line has no LF.
-fn main() {
-    console::run()
+#![tactic(auto)]
+
+fn main(rt: HostRuntime) {
+    console::run(rt)
 }

@@ -1,4 +1,6 @@
 // A script on standard input drives the machine; specs/ of the crate script say what each line asks and what it is answered.
-fn main() {
-    script::run();
+#![tactic(auto)]
+
+fn main(rt: HostRuntime) {
+    script::run(rt);
 }

@@ -1,4 +1,6 @@
 // All sixty-four triples of quarter turns on standard output: typed, and as they are shown.
-fn main() {
-    sheet::run()
+#![tactic(auto)]
+
+fn main(rt: HostRuntime) {
+    sheet::run(rt)
 }

@@ -7,7 +7,7 @@ ghost use Rattle.script.specs.Run.{answering, held_of, given, Roomy, Serves};
 use crate::cut::keep;
 use crate::feed::{Script, begin, feed, finish};
 use crate::parse::LONGEST_LINE;
-use libc::{STDERR_FILENO, STDIN_FILENO, STDOUT_FILENO};
+use std::io::{Print, Read};
 
 // What a block left: the script, and whether its answers could be written.
 #[derive(Clone, Copy)]
@@ -17,28 +17,29 @@ pub struct Served {
 }
 
 // Standard output gets what the script answers to a part of its input, and nothing else.
-fn write_answers(s: Script, held: &[u8], part: &[u8], answers: &[u8]) -> bool
+fn write_answers(rt: HostRuntime, s: Script, held: &[u8], part: &[u8], answers: &[u8]) -> bool
     requires { answers.now ≡ (given s held.now part.now).output }
 {
-    io::write_all(STDOUT_FILENO, answers)
+    Print::write_all(&rt.stdout(), answers).is_ok()
 }
 
 // The same for the end of the input.
-fn write_last(s: Script, held: &[u8], answers: &[u8]) -> bool
+fn write_last(rt: HostRuntime, s: Script, held: &[u8], answers: &[u8]) -> bool
     requires { answers.now ≡ ended answering (held_of s held.now) }
 {
-    io::write_all(STDOUT_FILENO, answers)
+    Print::write_all(&rt.stdout(), answers).is_ok()
 }
 
-fn complain_of_output() {
-    io::write_all(
-        STDERR_FILENO,
+fn complain_of_output(rt: HostRuntime) {
+    let _ = Print::write_all(
+        &rt.stderr(),
         b"ksscript: standard output cannot be written\n",
     );
 }
 
 // A block is fed until all of it is used; the answers are written as the buffer fills, and at the end. What is then held goes from line to held.
 fn serve(
+    rt: HostRuntime,
     s: Script,
     block: &[u8],
     held: &mut [u8],
@@ -57,7 +58,7 @@ fn serve(
         let f = feed(script, held, &block[at..], line, bytes, reply, out);
         let end = at + f.used;
         let written = f.written;
-        if !write_answers(script, held, &block[at..end], &out[..written]) {
+        if !write_answers(rt, script, held, &block[at..end], &out[..written]) {
             return Served { script, ok: false };
         }
         let next = f.script;
@@ -78,7 +79,7 @@ fn line_buffer() -> [u8; LONGEST_LINE + 1]
 
 // Blocks are read and served to the end of the input. A read or a write that fails ends the run, with a word on standard error. Nothing says that the
 // input ends, so the turns are counted down, from a number that no run uses up.
-pub fn run() {
+pub fn run(rt: HostRuntime) {
     let mut block = io::large_buffer();
     let mut held = line_buffer();
     let mut line = line_buffer();
@@ -88,16 +89,15 @@ pub fn run() {
     let mut script = begin();
     let mut turns = u64::MAX;
     while 0 < turns {
-        let got = libc::read(STDIN_FILENO, &mut block);
-        if got < 0 {
-            io::write_all(STDERR_FILENO, b"ksscript: standard input cannot be read\n");
+        let Ok(n) = rt.stdin().read(&mut block) else {
+            let _ = Print::write_all(&rt.stderr(), b"ksscript: standard input cannot be read\n");
             return;
-        }
-        let n = io::count(got, &block);
+        };
         if n == 0 {
             break;
         }
         let served = serve(
+            rt,
             script,
             &block[..n],
             &mut held,
@@ -107,14 +107,14 @@ pub fn run() {
             &mut out,
         );
         if !served.ok {
-            complain_of_output();
+            complain_of_output(rt);
             return;
         }
         script = served.script;
         turns -= 1;
     }
     let n = finish(script, &held, &mut bytes, &mut reply, &mut out);
-    if !write_last(script, &held, &out[..n]) {
-        complain_of_output();
+    if !write_last(rt, script, &held, &out[..n]) {
+        complain_of_output(rt);
     }
 }

@@ -1,4 +1,6 @@
 // A script of directives drives every public call of the machine.
+#![tactic(auto)]
+
 mod answer; // answer.rt: the answer to a line, as text
 mod cut; // cut.rt: what is held of a line that does not end
 mod drive; // drive.rt: standard input and output

@@ -1,14 +1,17 @@
 // The sheet of all triples of quarter turns, as they are typed and as they are shown. There is no table here: triples and what they are shown as come from
 // `pose`, and numbers are written by `print`, as they are for `ksrun`.
+
+#![tactic(auto)]
+
 ghost use Rattle.std.specs.Prelude.{◌≡◌, ◌+◌, ◌≤◌, length};
 ghost use Rattle.model.specs.Sheet.{whole_degrees, sheet_line, sheet, angles};
 ghost use Rattle.print.specs.Over.{Wrote};
 
 use facts::limits::{MILLION, QUARTER_TURN};
-use libc::{STDERR_FILENO, STDOUT_FILENO};
 use model::Turns;
 use pose::rotation::{named, shown_of, triple_at};
 use print::{put_byte, put_decimal};
+use std::io::Print;
 
 // Triples of 0 to 3 quarter turns.
 const TRIPLES: u8 = 64;
@@ -60,18 +63,18 @@ pub fn put_sheet(out: &mut [u8]) -> usize
 }
 
 // What is handed to standard output is the sheet.
-fn write_sheet(text: &[u8]) -> bool
+fn write_sheet(rt: HostRuntime, text: &[u8]) -> bool
     requires { text.now ≡ sheet }
 {
-    io::write_all(STDOUT_FILENO, text)
+    Print::write_all(&rt.stdout(), text).is_ok()
 }
 
-pub fn run() {
+pub fn run(rt: HostRuntime) {
     let mut out = io::buffer();
     let n = put_sheet(&mut out);
-    if !write_sheet(&out[..n]) {
-        io::write_all(
-            STDERR_FILENO,
+    if !write_sheet(rt, &out[..n]) {
+        let _ = Print::write_all(
+            &rt.stderr(),
             b"kssheet: standard output cannot be written\n",
         );
     }

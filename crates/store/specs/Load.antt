@@ -19,4 +19,4 @@ Loads before after Loaded.Failed = after ≡ before
 -- what was read lies in the room
 abbrev pub Fills : List ℕ → List ℕ → Filled → Type 0
 Fills before after (Filled.Bytes n) = n ≤ length after
-Fills before after Filled.Broken = Unit {0}
+Fills before after (Filled.Broken e) = Unit {0}

@@ -4,9 +4,11 @@ ghost use Rattle.model.specs.ImageClaims.{longest_image};
 ghost use Rattle.store.specs.Load.{Loads, Fills};
 
 use crate::place::{LONGEST_PATH, folder};
-use crate::reach::{mode_of, seen};
+use crate::reach::{S_IFDIR, S_IFMT, S_IFREG, mode_of, open_read, seen};
 use crate::say::{complain, complain_why};
 use print::put_text;
+use std::fs::File;
+use std::io::{Error, ErrorKind, Read};
 
 // The longest image, as `longest_image` of the definitions has it.
 pub const LONGEST_IMAGE: usize = 599;
@@ -26,14 +28,14 @@ pub enum Loaded {
 #[derive(Clone, Copy)]
 enum Filled {
     Bytes(usize),
-    Broken,
+    Broken(Error),
 }
 
-// Opens the folder that holds the file, for its descriptor.
-pub(crate) fn open_folder(path: &[u8]) -> i32 {
+// Opens the folder that holds the file.
+pub(crate) fn open_folder(rt: HostRuntime, path: &[u8]) -> std::io::Result<File> {
     let mut room = io::buffer();
     let n = folder(path, &mut room);
-    os::open_read(&room[..n])
+    open_read(rt, &room[..n])
 }
 
 // No file can have this path.
@@ -46,86 +48,86 @@ fn no_name(path: &[u8]) -> bool {
 }
 
 // Whether a file could be made there.
-fn has_folder(path: &[u8]) -> bool {
-    let fd = open_folder(path);
-    if fd < 0 {
-        complain_why(path, b"its folder cannot be opened");
-        return false;
+fn has_folder(rt: HostRuntime, path: &[u8]) -> bool {
+    match open_folder(rt, path) {
+        Ok(_) => true,
+        Err(e) => {
+            complain_why(rt, path, b"its folder cannot be opened", e);
+            false
+        }
     }
-    libc::close(fd);
-    true
 }
 
 // The kind could not be told: there is no file, or the way to it is barred.
-fn absent(path: &[u8], linked: bool) -> bool {
-    if seen(path) == 0 {
-        complain(path, b"cannot be told what it is");
+fn absent(rt: HostRuntime, path: &[u8], linked: bool) -> bool {
+    let Err(e) = seen(rt, path) else {
+        complain(rt, path, b"cannot be told what it is");
         return false;
-    }
-    if os::errno() != libc::ENOENT {
-        complain_why(path, b"cannot be reached");
+    };
+    if e.kind() != ErrorKind::NotFound {
+        complain_why(rt, path, b"cannot be reached", e);
         return false;
     }
     if linked {
-        complain(path, b"a link leads to it, and there is no such file");
+        complain(rt, path, b"a link leads to it, and there is no such file");
         return false;
     }
-    has_folder(path)
+    has_folder(rt, path)
 }
 
 // Whether it may be opened: a regular file.
-fn openable(path: &[u8], mode: u32) -> bool {
-    let kind = mode & libc::S_IFMT;
-    if kind == libc::S_IFREG {
+fn openable(rt: HostRuntime, path: &[u8], mode: u32) -> bool {
+    let kind = mode & S_IFMT;
+    if kind == S_IFREG {
         return true;
     }
-    if kind == libc::S_IFDIR {
-        complain(path, b"it is a folder");
+    if kind == S_IFDIR {
+        complain(rt, path, b"it is a folder");
         return false;
     }
-    complain(path, b"not a regular file");
+    complain(rt, path, b"not a regular file");
     false
 }
 
 // Whether there may be such a file: else a complaint is made.
-pub fn is_fit(path: &[u8]) -> bool {
+pub fn is_fit(rt: HostRuntime, path: &[u8]) -> bool {
     if no_name(path) {
-        complain(path, b"not the name of a file");
+        complain(rt, path, b"not the name of a file");
         return false;
     }
-    let mode = mode_of(path);
+    let mode = mode_of(rt, path);
     if mode == 0 {
         return true;
     }
-    openable(path, mode)
+    openable(rt, path, mode)
 }
 
 // Reads to the end of the file, or until the room is full.
-fn fill(fd: i32, room: &mut [u8]) -> Filled
+fn fill(file: &mut File, room: &mut [u8]) -> Filled
     ensures { Fills room.old room.new result }
 {
     let mut n = 0;
     while n < room.len() {
-        let got = libc::read(fd, &mut room[n..]);
-        if got < 0 {
-            return Filled::Broken;
+        match file.read(&mut room[n..]) {
+            Ok(more) => {
+                if more == 0 {
+                    return Filled::Bytes(n);
+                }
+                n += more;
+            }
+            Err(e) => return Filled::Broken(e),
         }
-        let more = io::count(got, &room[n..]);
-        if more == 0 {
-            return Filled::Bytes(n);
-        }
-        n += more;
     }
     Filled::Bytes(n)
 }
 
 // What was read is an image's length at most, and goes to the front of out.
-fn keep(path: &[u8], bytes: &[u8], out: &mut [u8]) -> Loaded
+fn keep(rt: HostRuntime, path: &[u8], bytes: &[u8], out: &mut [u8]) -> Loaded
     requires { longest_image ≤ length out.old }
     ensures { Loads out.old out.new result }
 {
     if LONGEST_IMAGE < bytes.len() {
-        complain(path, b"longer than any image (599 bytes)");
+        complain(rt, path, b"longer than any image (599 bytes)");
         return Loaded::Failed;
     }
     let n = put_text(out, 0, bytes);
@@ -133,53 +135,52 @@ fn keep(path: &[u8], bytes: &[u8], out: &mut [u8]) -> Loaded
 }
 
 // The image of an open file.
-fn take(path: &[u8], fd: i32, out: &mut [u8]) -> Loaded
+fn take(rt: HostRuntime, path: &[u8], mut file: File, out: &mut [u8]) -> Loaded
     requires { longest_image ≤ length out.old }
     ensures { Loads out.old out.new result }
 {
     let mut room = [0u8; ROOM];
-    let filled = fill(fd, &mut room);
+    let filled = fill(&mut file, &mut room);
     match filled {
-        Filled::Bytes(n) => keep(path, &room[..n], out),
-        Filled::Broken => {
-            complain_why(path, b"cannot be read");
+        Filled::Bytes(n) => keep(rt, path, &room[..n], out),
+        Filled::Broken(e) => {
+            complain_why(rt, path, b"cannot be read", e);
             Loaded::Failed
         }
     }
 }
 
 // The image of a regular file.
-fn open(path: &[u8], out: &mut [u8]) -> Loaded
+fn open(rt: HostRuntime, path: &[u8], out: &mut [u8]) -> Loaded
     requires { longest_image ≤ length out.old }
     ensures { Loads out.old out.new result }
 {
-    let fd = os::open_read(path);
-    if fd < 0 {
-        complain_why(path, b"cannot be opened");
-        return Loaded::Failed;
+    match open_read(rt, path) {
+        Ok(file) => take(rt, path, file, out),
+        Err(e) => {
+            complain_why(rt, path, b"cannot be opened", e);
+            Loaded::Failed
+        }
     }
-    let loaded = take(path, fd, out);
-    libc::close(fd);
-    loaded
 }
 
 // The image in the file of this path, to the front of out. `linked` says that the name given was a link.
-pub fn load(path: &[u8], linked: bool, out: &mut [u8]) -> Loaded
+pub fn load(rt: HostRuntime, path: &[u8], linked: bool, out: &mut [u8]) -> Loaded
     requires { longest_image ≤ length out.old }
     ensures { Loads out.old out.new result }
 {
-    if !is_fit(path) {
+    if !is_fit(rt, path) {
         return Loaded::Failed;
     }
     if LONGEST_PATH < path.len() {
-        complain(path, b"its path is too long");
+        complain(rt, path, b"its path is too long");
         return Loaded::Failed;
     }
-    if mode_of(path) == 0 {
-        if absent(path, linked) {
+    if mode_of(rt, path) == 0 {
+        if absent(rt, path, linked) {
             return Loaded::Missing;
         }
         return Loaded::Failed;
     }
-    open(path, out)
+    open(rt, path, out)
 }

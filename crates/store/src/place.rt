@@ -3,9 +3,8 @@ ghost use Rattle.std.specs.Prelude.{◌≡◌, ◌++◌, ◌≤◌, length, take
 ghost use Rattle.io.specs.Counts.{IsPrefixLen};
 ghost use Rattle.store.specs.Place.{Placed, Steps, slash_end, folder_of, is_rooted, link_start, target_of, longest_path};
 
-use crate::reach::link_text;
+use crate::reach::{PATH_MAX, is_symlink, link_text};
 use crate::say::complain;
-use libc::PATH_MAX;
 use print::put_text;
 
 // Links that are followed before the chain is given up: a ring of links has no end.
@@ -114,17 +113,18 @@ enum Step {
     Long,
 }
 
-// One link is followed, in place.
-fn follow(path: &mut [u8], n: usize) -> Step
+// One link is followed, in place. One whose text cannot be had, as it is no UTF-8, has no room here either.
+fn follow(rt: HostRuntime, path: &mut [u8], n: usize) -> Step
     requires { n ≤ length path.old }
     ensures { Steps path.new result }
 {
     let mut text = io::buffer();
-    let got = link_text(&path[..n], &mut text);
-    if got < 0 {
+    let Ok(k) = link_text(rt, &path[..n], &mut text) else {
+        if is_symlink(rt, &path[..n]) {
+            return Step::Long;
+        }
         return Step::File;
-    }
-    let k = io::count(got, &text);
+    };
     let m = relink(path, n, &text[..k]);
     if m == 0 {
         return Step::Long;
@@ -133,56 +133,54 @@ fn follow(path: &mut [u8], n: usize) -> Step
 }
 
 // Whether the name is that of a symbolic link.
-pub fn is_link(name: &[u8]) -> bool {
-    let mut text = [0u8; 1];
-    let got = link_text(name, &mut text);
-    0 <= got
+pub fn is_link(rt: HostRuntime, name: &[u8]) -> bool {
+    is_symlink(rt, name)
 }
 
 // The path is as long as may be, or a complaint says that it is not.
-fn short_enough(name: &[u8], n: usize) -> usize
+fn short_enough(rt: HostRuntime, name: &[u8], n: usize) -> usize
     ensures { (result ≤ n) × (result ≤ longest_path) }
 {
     if LONGEST_PATH < n {
-        complain(name, b"its path is too long");
+        complain(rt, name, b"its path is too long");
         return 0;
     }
     n
 }
 
 // Where following ended.
-fn settled(name: &[u8], step: Step, n: usize) -> usize
+fn settled(rt: HostRuntime, name: &[u8], step: Step, n: usize) -> usize
     ensures { (result ≤ n) × (result ≤ longest_path) }
 {
     match step {
         Step::To(_) => 0,
-        Step::File => short_enough(name, n),
+        Step::File => short_enough(rt, name, n),
         Step::Long => {
-            complain(name, b"the path that it links to is too long");
+            complain(rt, name, b"the path that it links to is too long");
             0
         }
     }
 }
 
 // The path of the file itself: while it is a link, it is replaced by what the link means.
-pub fn settle(name: &[u8], out: &mut [u8]) -> usize
+pub fn settle(rt: HostRuntime, name: &[u8], out: &mut [u8]) -> usize
     ensures prefix_len { IsPrefixLen result out.new }
     ensures upper_bound { result ≤ longest_path }
 {
     let mut n = alone(name, out);
     if n == 0 {
-        complain(name, b"its path is empty or too long");
+        complain(rt, name, b"its path is empty or too long");
         return 0;
     }
     let mut links = 0;
     while links <= MOST_LINKS {
-        let step = follow(out, n);
+        let step = follow(rt, out, n);
         let Step::To(next) = step else {
-            return settled(name, step, n);
+            return settled(rt, name, step, n);
         };
         n = next;
         links += 1;
     }
-    complain(name, b"a chain of more than 8 links");
+    complain(rt, name, b"a chain of more than 8 links");
     0
 }

@@ -1,51 +1,100 @@
-// The calls that take a path in C's form: PATH_MAX bytes, of which the last is 0. A path that has no room there is answered as a file that is not there, since
-// one that is cut short names another file.
-ghost use Rattle.std.specs.Prelude.{◌<◌, length};
-ghost use Rattle.libc.specs.Io.{Ended, Moved, Status};
+// The calls that take a path. std takes a path as text: one that is no UTF-8 is answered as a file that cannot be reached, with the system's error for such
+// bytes.
+ghost use Rattle.std.specs.Io.{ReadsAtMost};
+ghost use Rattle.io.specs.Counts.{IsPrefixLen};
 
-use libc::PATH_MAX;
-use print::put_text;
+use std::fs;
+use std::fs::{File, OpenOptions};
+use std::io::Error;
 
-const LAST: usize = PATH_MAX - 1;
+// The room for a path, with C's 0 behind it.
+pub(crate) const PATH_MAX: usize = 4096;
 
-// The path in C's form: its text ends at the first 0.
-fn ended(path: &[u8]) -> [u8; PATH_MAX]
-    requires { length path.now < 4096 }
-    ensures { Ended result }
-{
-    let mut room = io::buffer();
-    put_text(&mut room, 0, path);
-    room[LAST] = 0;
-    room
+// The bits of a mode that tell the kind of a file, and two of the kinds.
+pub(crate) const S_IFMT: u32 = 0o170000;
+
+pub(crate) const S_IFDIR: u32 = 0o040000;
+
+pub(crate) const S_IFREG: u32 = 0o100000;
+
+// C's number for bytes that are no text, EILSEQ.
+const NO_TEXT: i32 = 84;
+
+fn text_of(path: &[u8]) -> std::io::Result<&str> {
+    match str::from_utf8(path) {
+        Ok(text) => Ok(text),
+        Err(_) => Err(Error::from_raw_os_error(NO_TEXT)),
+    }
 }
 
 // The kind and mode of the file, links followed, or 0 where they cannot be told.
-pub(crate) fn mode_of(path: &[u8]) -> u32 {
-    if PATH_MAX <= path.len() {
-        return 0;
+pub(crate) fn mode_of(rt: HostRuntime, path: &[u8]) -> u32 {
+    match text_of(path) {
+        Ok(text) => status::mode_at(rt, text),
+        Err(_) => 0,
     }
-    let c = ended(path);
-    status::mode_at(&c)
 }
 
-// Asks for the file and opens nothing: 0 where it is there, else -1, and errno says why.
-pub(crate) fn seen(path: &[u8]) -> i32
-    ensures { Status result }
-{
-    if PATH_MAX <= path.len() {
-        return -1;
-    }
-    let c = ended(path);
-    libc::access(&c, libc::F_OK)
+// Asks for the file and opens nothing: an error, which says why, where it is not there.
+pub(crate) fn seen(rt: HostRuntime, path: &[u8]) -> std::io::Result<()> {
+    let text = text_of(path)?;
+    fs::metadata(&rt, text)?;
+    Ok(())
 }
 
-// The text of a symbolic link to the front of out, and its length, or -1 where there is none.
-pub(crate) fn link_text(path: &[u8], out: &mut [u8]) -> isize
-    ensures { Moved (length out.old) result }
-{
-    if PATH_MAX <= path.len() {
-        return -1;
+// Whether the name is that of a symbolic link.
+pub(crate) fn is_symlink(rt: HostRuntime, path: &[u8]) -> bool {
+    let Ok(text) = text_of(path) else {
+        return false;
+    };
+    match fs::symlink_metadata(&rt, text) {
+        Ok(found) => found.is_symlink(),
+        Err(_) => false,
     }
-    let c = ended(path);
-    libc::readlink(&c, out)
+}
+
+// As much of a text as there is room for, to the front of out.
+fn put_front(text: &[u8], out: &mut [u8]) -> usize
+    ensures { IsPrefixLen result out.new }
+{
+    let n = text.len().min(out.len());
+    out[..n].copy_from_slice(&text[..n]);
+    n
+}
+
+// The text of a symbolic link to the front of out, and its length, or an error where there is none. The text is read into a place of its own, which is given
+// back at once.
+pub(crate) fn link_text(rt: HostRuntime, path: &[u8], out: &mut [u8]) -> std::io::Result<usize>
+    ensures { ReadsAtMost result out.new }
+{
+    let text = text_of(path)?;
+    let found = fs::read_link(&rt, text)?;
+    Ok(put_front(found.as_str().as_bytes(), out))
+}
+
+// Opens a file or a folder for reading.
+pub(crate) fn open_read(rt: HostRuntime, path: &[u8]) -> std::io::Result<File> {
+    let text = text_of(path)?;
+    OpenOptions::new().read(true).open(&rt, text)
+}
+
+// Makes the file, for writing, where none has its name.
+pub(crate) fn create(rt: HostRuntime, path: &[u8]) -> std::io::Result<File> {
+    let text = text_of(path)?;
+    OpenOptions::new()
+        .write(true)
+        .create_new(true)
+        .open(&rt, text)
+}
+
+// The name goes.
+pub(crate) fn unlink(rt: HostRuntime, path: &[u8]) -> std::io::Result<()> {
+    let text = text_of(path)?;
+    fs::remove_file(&rt, text)
+}
+
+pub(crate) fn rename(rt: HostRuntime, from: &[u8], to: &[u8]) -> std::io::Result<()> {
+    let old = text_of(from)?;
+    let new = text_of(to)?;
+    fs::rename(&rt, old, new)
 }

@@ -1,41 +1,62 @@
 // Complaints on standard error, one line each: `ksbench: PATH: text`. Where standard error cannot be written, nothing is left to be done.
-use libc::STDERR_FILENO;
+use std::fmt::InlineText;
+use std::io::{Error, Print};
 
-fn say(text: &[u8]) {
-    io::write_all(STDERR_FILENO, text);
+fn say(rt: HostRuntime, text: &[u8]) {
+    let _ = Print::write_all(&rt.stderr(), text);
 }
 
 // Who complains, and of which file.
-fn begin(path: &[u8]) {
-    say(b"ksbench: ");
-    say(path);
-    say(b": ");
+fn begin(rt: HostRuntime, path: &[u8]) {
+    say(rt, b"ksbench: ");
+    say(rt, path);
+    say(rt, b": ");
 }
 
-pub fn complain(path: &[u8], text: &[u8]) {
-    begin(path);
-    say(text);
-    say(b"\n");
+pub fn complain(rt: HostRuntime, path: &[u8], text: &[u8]) {
+    begin(rt, path);
+    say(rt, text);
+    say(rt, b"\n");
 }
 
-// With the system's words for the call that failed last: it stands directly before this one, and what cleans up after it comes later.
-pub(crate) fn complain_why(path: &[u8], text: &[u8]) {
-    begin(path);
-    os::fail(text);
+// An error's text without the number that std puts behind the system's words.
+fn words(whole: &str) -> &str {
+    match whole.split_once(" (os error ") {
+        Some((words, _)) => words,
+        None => whole,
+    }
+}
+
+// A line that ends in the system's words for an error.
+pub fn fail(rt: HostRuntime, text: &[u8], why: Error) {
+    let whole: InlineText<128> = InlineText::of(why);
+    say(rt, text);
+    say(rt, b": ");
+    say(rt, words(whole.as_str()).as_bytes());
+    say(rt, b"\n");
+}
+
+// With the system's words for the call that failed.
+pub(crate) fn complain_why(rt: HostRuntime, path: &[u8], text: &[u8], why: Error) {
+    begin(rt, path);
+    fail(rt, text, why);
 }
 
 // The file is in use by the process of this number.
-pub(crate) fn complain_taken(path: &[u8], process: &[u8]) {
-    begin(path);
-    say(b"another ksbench (process ");
-    say(process);
-    say(b") has it\n");
+pub(crate) fn complain_taken(rt: HostRuntime, path: &[u8], process: &[u8]) {
+    begin(rt, path);
+    say(rt, b"another ksbench (process ");
+    say(rt, process);
+    say(rt, b") has it\n");
 }
 
 // Whether the file is in use cannot be told.
-pub(crate) fn complain_unknown(path: &[u8]) {
-    begin(path);
-    say(b"whether another ksbench has it cannot be told; if none runs, remove ");
-    say(path);
-    say(b".lock\n");
+pub(crate) fn complain_unknown(rt: HostRuntime, path: &[u8]) {
+    begin(rt, path);
+    say(
+        rt,
+        b"whether another ksbench has it cannot be told; if none runs, remove ",
+    );
+    say(rt, path);
+    say(rt, b".lock\n");
 }
