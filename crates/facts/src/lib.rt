@@ -1,6 +1,8 @@
 // What document 01 fixes once and for all, as the code needs it: limits, refusal numbers, and what is said of a type and of a group. Each stands here once,
 // and is promised, or proved where it is used, against its one definition. (Texts, the codes that an image is read by and the lengths of the arrays in
 // `model` stand where docs/DECISIONS.md says, since they cannot stand here.)
+#![tactic(auto)]
+
 pub mod limits; // limits.rt: how many, how long, how far
 pub mod numbers; // numbers.rt: the refusal numbers, each with its sentence
 pub mod kinds; // kinds.rt: what is said of a type

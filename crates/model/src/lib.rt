@@ -1,4 +1,5 @@
 // The types that the code and the definitions share. There is no code here; the definitions are in specs/.
+#![tactic(auto)]
 
 // A signed coordinate axis.
 #[derive(Clone, Copy)]

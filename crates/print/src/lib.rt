@@ -1,5 +1,7 @@
 // Texts and numbers written into a lent part, in place and in one pass. A writer takes the place where its text is to begin and returns the place
 // after it, so that writers follow on one another; what they leave in the whole part is `Wrote` of specs/.
+#![tactic(auto)]
+
 ghost use Rattle.std.specs.Prelude.{◌∷◌, [], ◌+◌, ◌≤◌, ◌<◌, ◌^◌, length, nat_abs};
 ghost use Rattle.model.specs.Limits.{name_limit};
 ghost use Rattle.model.specs.Stored.{bytes_of};

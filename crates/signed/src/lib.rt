@@ -1,4 +1,6 @@
 // Numbers of the machine in another form: a signed one negated, or without its sign, and a byte among the wide ones.
+#![tactic(auto)]
+
 ghost use Rattle.std.specs.Prelude.{◌≡◌, ◌<◌, ◌^◌, nat_abs, neg_ℤ};
 
 pub fn negated(z: i64) -> i64

@@ -15,7 +15,7 @@ use Rattle.model.specs.Memory.{Memory, State, factory, started, place_named, use
 use Rattle.model.specs.Words.{legal_name, reserved}
 use Rattle.model.specs.WellFormed.{memory_fine, well_formed}
 use Rattle.model.specs.Request.{Change, Reading, reading, unknown, malformed, beyond, asks, change, list, last_error, define, link, copy, remove, enable, set_level, save, restore, reset, locate}
-use Rattle.model.specs.Refusals.{of_line?, first, absent, change_ladder, request_ladder, reading_ladder}
+use Rattle.model.specs.Refusals.{of_line?, absent, change_ladder, request_ladder, reading_ladder}
 use Rattle.model.specs.Effects.{with_volatile, with_error, with_name, put, fresh, linked, removed_at, changed, next, with_position, located}
 use Rattle.model.specs.Image.{accepted}
 use Rattle.model.specs.Machine.{carried_out, stepped, restart, start_image, positioned}

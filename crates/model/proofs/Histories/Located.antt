@@ -1,5 +1,5 @@
 -- Document 02 §1, proved: `stage_claims` and, of stored states, `stored_locates`. (What becomes of the position is in Positions.)
-use Prim.Native.Nat.{ℕ, zero, suc, ◌≤◌}
+use Prim.Native.Nat.{ℕ, suc, ◌≤◌}
 use mathlib.Core.Path.{◌≡◌, refl, sym, ap, ◌∙◌}
 use mathlib.Core.List.{List, [], ◌∷◌}
 use mathlib.Core.Bool.{Bool, true, false, ◌&&◌}
@@ -13,18 +13,17 @@ use Rattle.model.specs.Types.{Vec3, Ksf, Position, OperatingPart, Single, Pair}
 use Rattle.model.specs.Ascii.{ascii}
 use Rattle.model.specs.Lists.{all, any, same, there?}
 use Rattle.model.specs.Limits.{buffer_limit}
-use Rattle.model.specs.Pose.{Pose, origin, turned, unturned, plus, placed, followed, rot_of, shown}
+use Rattle.model.specs.Pose.{Pose, origin, unturned, plus, placed, followed, rot_of, shown}
 use Rattle.model.specs.Memory.{System, Memory, State, zero_position, system_at, is_user, find, ref_or, named, user_named, meant}
-use Rattle.model.specs.Chain.{steps, resultant}
+use Rattle.model.specs.Chain.{resultant}
 use Rattle.model.specs.Words.{words}
 use Rattle.model.specs.Stage.{operating_place, aslant, operating_pose, step_to, spot}
 use Rattle.model.specs.WellFormed.{well_formed}
 use Rattle.model.specs.Request.{Reading, reading, unknown, malformed, beyond, asks, change, list, last_error, define, locate, link, copy, remove, enable, set_level, save, restore, reset, enabled_ones, systems_all, links, resultants, resultant_of, resultant_in, one_name, names?, definitions, edits, settings, queries, commands, read_by, read_words}
 use Rattle.model.specs.Refusals.{short, locked, first, unreadable, refusal, ladder, reading_ladder, request_ladder, change_ladder, query_ladder}
 use Rattle.model.specs.Effects.{put, fresh, located, enabled_user, enabling, changed, next}
-use Rattle.model.specs.Image.{accepted}
 use Rattle.model.specs.Machine.{Outcome, carried_out, stepped}
-use Rattle.model.specs.Trace.{line, after_calls, after_inputs}
+use Rattle.model.specs.Trace.{after_calls, after_inputs}
 use Rattle.model.specs.Demand.{held, held_part, frames, start_state}
 use Rattle.model.specs.Claims.{applies, tried_before, before}
 use Rattle.model.specs.StageClaims.{work_pose, AsksLocation, AsksWhileTurned, MadeHere, EnabledHere, StageClaims, StoredLocates}

@@ -7,7 +7,7 @@ use mathlib.Core.Logic.{⊎_elim}
 use native.Mathlib.Omega.{arith}
 use lib.ListN.{length, length-map}
 use Rattle.model.specs.Types.{StoredState, Ksw, Pair}
-use Rattle.model.specs.Lists.{any, up_to, table, same, one_of, Search, search}
+use Rattle.model.specs.Lists.{any, up_to, table, same, one_of, Search}
 use Rattle.model.specs.Limits.{max_systems}
 use Rattle.model.specs.Pose.{origin}
 use Rattle.model.specs.Memory.{Memory, State, factory, name_of, no_turn}

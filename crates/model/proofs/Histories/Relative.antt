@@ -13,7 +13,7 @@ use Rattle.model.specs.Types.{Group, Operating}
 use Rattle.model.specs.Ascii.{ascii}
 use Rattle.model.specs.Lists.{all, same, none?, there?}
 use Rattle.model.specs.Kinds.{of_group}
-use Rattle.model.specs.Pose.{Pose, shown}
+use Rattle.model.specs.Pose.{Pose}
 use Rattle.model.specs.Memory.{Memory, State, Ref, fixed_ref, name_of, find, ref_or, named}
 use Rattle.model.specs.Chain.{steps, pose_in}
 use Rattle.model.specs.WellFormed.{well_formed}

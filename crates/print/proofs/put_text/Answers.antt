@@ -1,9 +1,7 @@
-use Prim.Native.Nat.{◌-◌}
 use mathlib.Core.Path.{refl, sym, ◌∙◌}
 use native.Mathlib.Nat.{add-zero}
 use native.Mathlib.Omega.{arith}
-use lib.ListN.{length, length-set}
-use Rattle.print.specs.Over.{over}
+use lib.ListN.{length-set}
 use Rattle.print.proofs.Laws.{over_turn, over_done}
 use Rattle.print.proofs.put_text.Goals as goal
 

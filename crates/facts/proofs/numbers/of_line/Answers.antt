@@ -7,7 +7,6 @@ use Rattle.model.specs.Lists.{any}
 use Rattle.model.specs.Refusals.{of_line?}
 use Rattle.model.proofs.Upto.{at, alike}
 use Rattle.facts.proofs.numbers.of_line.Goals as goal
-
 -- The two tests agree on every byte: that is computed.
 use Prim.Native.Nat.{ℕ, ◌<◌}
 use mathlib.Core.Path.{◌≡◌}
@@ -17,8 +16,6 @@ use lib.Dec.{eqb}
 use Rattle.model.specs.Lists.{any}
 use Rattle.model.specs.Refusals.{of_line?}
 use Rattle.model.proofs.Upto.{at, alike}
-use Rattle.facts.proofs.numbers.of_line.Statement.{statement}
-use Rattle.facts.proofs.numbers.of_line.Tie as tie
 
 -- the test of the code
 test : ℕ → Bool
@@ -32,4 +29,3 @@ tests_agree n h = alike (test n) (of_line? n) (at 256 (λ k. beq (test k) (of_li
 pub returns : goal.returns
 unfolding test
 returns c = tests_agree c.args.n (omega arith)
-
