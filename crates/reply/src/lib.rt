@@ -1,5 +1,7 @@
 // The replies to the queries, written straight into the lent buffer. A list begins with the fixed systems' lines; each further line goes into what is
 // left of the buffer.
+#![tactic(auto)]
+
 ghost use Rattle.std.specs.Prelude.{◌≡◌, ◌++◌, [], ◌-◌, ◌≤◌, length};
 ghost use Rattle.model.specs.Ascii.{ascii};
 ghost use Rattle.model.specs.Limits.{buffer_limit};
