@@ -1,4 +1,6 @@
 // The saved image: the bytes of a well-formed memory, and the well-formed memory whose bytes these are.
+#![tactic(auto)]
+
 ghost use Rattle.std.specs.Prelude.{◌≤◌, ◌≡◌, true, length};
 ghost use Rattle.model.specs.Limits.{buffer_limit};
 ghost use Rattle.model.specs.WellFormed.{memory_fine};

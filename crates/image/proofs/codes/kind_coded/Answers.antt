@@ -10,36 +10,35 @@ use Rattle.model.specs.Told.{or_number}
 use Rattle.model.specs.Image.{kind_of}
 use Rattle.image.specs.Codes.{kind_coded}
 use Rattle.model.proofs.Told.{refuses_none}
-use Rattle.image.proofs.codes.kind_coded.Statement.{statement}
-use Rattle.image.proofs.codes.kind_coded.Tie as tie
+use Rattle.image.proofs.codes.kind_coded.Goals as goal
 
-returns : tie.Need-returns
+pub returns-in-1 : goal.returns-in-1
 unfolding or_number kind_coded kind_of
-returns c = rw c.match.keys1
+returns-in-1 c = rw c.in-1.is
 
-returns_2 : tie.Need-returns-2
+pub returns-in-2 : goal.returns-in-2
 unfolding or_number kind_coded kind_of
-returns_2 c = rw c.match.keys2
+returns-in-2 c = rw c.in-2.is
 
-returns-3 : tie.Need-returns-3
+pub returns-in-3 : goal.returns-in-3
 unfolding or_number kind_coded kind_of
-returns-3 c = rw c.match.keys3
+returns-in-3 c = rw c.in-3.is
 
-returns-4 : tie.Need-returns-4
+pub returns-in-4 : goal.returns-in-4
 unfolding or_number kind_coded kind_of
-returns-4 c = rw c.match.keys4
+returns-in-4 c = rw c.in-4.is
 
-returns-5 : tie.Need-returns-5
+pub returns-in-5 : goal.returns-in-5
 unfolding or_number kind_coded kind_of
-returns-5 c = rw c.match.keys5
+returns-in-5 c = rw c.in-5.is
 
-returns-6 : tie.Need-returns-6
+pub returns-in-6 : goal.returns-in-6
 unfolding or_number kind_coded kind_of
-returns-6 c = rw c.match.keys6
+returns-in-6 c = rw c.in-6.is
 
-returns-7 : tie.Need-returns-7
+pub returns-in-0 : goal.returns-in-0
 unfolding or_number kind_coded kind_of
-returns-7 c = rw c.match.keys7
+returns-in-0 c = rw c.in-0.in-0-own.keys7
 
 passed_over : (k : Kind) (ks : List Kind) (c : ℕ) → (c ≡ (of_kind k).code → ⊥) → kind_of (k ∷ ks) c ≡ kind_of ks c
 unfolding kind_of
@@ -49,11 +48,11 @@ nothing_coded : (c : ℕ) → kind_of kinds c ≡ none → kind_coded c ≡ none
 unfolding kind_coded
 nothing_coded c e = rw (e, kind_coded)
 
-returns-8 : tie.Need-returns-8
+pub returns-in-0-2 : goal.returns-in-0-2
 unfolding kind_of
-returns-8 c =
-    let r = c.match.rest in
-    let n = c.before.args.code in
+returns-in-0-2 c =
+    let r = c.in-0.in-0-own.rest in
+    let n = c.args.code in
     let e : kind_of kinds n ≡ none =
     passed_over Ksd (Kst ∷ Ksw ∷ Ksb ∷ Kld ∷ Ksf ∷ []) n r.0.0.0.0.0.0.1
     ∙ passed_over Kst (Ksw ∷ Ksb ∷ Kld ∷ Ksf ∷ []) n r.0.0.0.0.0.1
@@ -62,7 +61,3 @@ returns-8 c =
     ∙ passed_over Kld (Ksf ∷ []) n r.0.0.1
     ∙ passed_over Ksf [] n r.0.1 in
     refuses_none 14 (nothing_coded n e)
-
-pub kind_coded_spec : {M : Type 1} → statement M
-kind_coded_spec =
-    tie.close (tie.spec returns returns_2 returns-3 returns-4 returns-5 returns-6 returns-7 returns-8)
