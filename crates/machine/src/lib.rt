@@ -1,5 +1,7 @@
 // The machine's public calls. None asks anything of its caller: a state that is not well formed comes back as it is, with 1 (`in_use` gives none back). What each promises, an equation
 // for all that it returns and the whole lent buffer, is what a history of stored states knows of it (Histories.antt of model).
+#![tactic(auto)]
+
 ghost use Rattle.std.specs.Prelude.{◌≡◌};
 ghost use Rattle.model.specs.Memory.{zero_position};
 ghost use Rattle.model.specs.Machine.{start_factory, refuses_use};
