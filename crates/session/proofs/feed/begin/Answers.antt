@@ -5,19 +5,14 @@ use Rattle.model.specs.Machine.{start_factory}
 use Rattle.model.proofs.Histories.Kept.{well_formed_kept}
 use Rattle.model.proofs.Histories.Tally.{same_sums, empty_sums}
 use Rattle.model.proofs.Views.{view_is}
-use borrow.Author.Rules.{rules}
-use Rattle.session.proofs.feed.begin.Statement.{statement}
-use Rattle.session.proofs.feed.begin.Tie as tie
+use Rattle.session.proofs.feed.begin.Goals as goal
 
-returns : tie.Need-returns
+pub returns : goal.returns
 returns c =
-    let v = view_is c.before.start-factory.result start_factory c.before.start-factory.ensures in
-    let b = c.begin-from.ensures in
+    let v = view_is c.start_factory.result start_factory c.start_factory.ensures in
+    let b = c.begin_from.ensures in
     record {
       held = rw (b.0, b.2, v.1) refl;
       tally = b.1;
       between = record { fine = record { shape = rw b.0 v.0; formed = rw (b.0, v.1) well_formed_kept.factory }; sums = same_sums b.1 empty_sums; few = omega (arith, b.2) };
     }
-
-pub begin_spec : {M : Type 1} → statement M
-begin_spec = tie.close (tie.spec (λ c κs. search rules) (λ c κs. search rules) returns)
