@@ -1,6 +1,6 @@
 -- What a decision makes of a state.
-use Rattle.std.specs.Prelude.{◌≤◌, ◌<◌, ◌≡◌, length}
-use Rattle.model.specs.Base.{ℕ, List, Bool, true, false, cond, ◌&&◌, eqb}
+use Rattle.std.specs.Prelude.{◌≤◌, ◌<◌, ◌≡◌, length, ◌&&◌}
+use Rattle.model.specs.Base.{ℕ, List, Bool, true, false, cond, eqb}
 use Rattle.model.specs.declared.Memory.{Memory as StoredMemory}
 use Rattle.model.specs.declared.State.{State as StoredState}
 use Rattle.model.specs.Limits.{max_systems}

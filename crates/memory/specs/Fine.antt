@@ -1,5 +1,6 @@
 -- The parts in which the code judges a memory.
-use Rattle.model.specs.Base.{List, Bool, ◌&&◌, take}
+use Rattle.std.specs.Prelude.{◌&&◌}
+use Rattle.model.specs.Base.{List, Bool, take}
 use Rattle.model.specs.declared.System.{System as StoredSystem}
 use Rattle.model.specs.declared.Memory.{Memory as StoredMemory}
 use Rattle.model.specs.Lists.{all}

@@ -1,5 +1,6 @@
 -- A number that names with the same bytes share: the length, the first byte and the last.
-use Rattle.model.specs.Base.{ℕ, ◌+◌, ◌*◌, ◌-◌, List, map, length, get_or}
+use Rattle.std.specs.Prelude.{◌+◌, ◌*◌, ◌-◌}
+use Rattle.model.specs.Base.{ℕ, List, map, length, get_or}
 use Rattle.model.specs.Memory.{System}
 
 abbrev pub key_of : List ℕ → ℕ

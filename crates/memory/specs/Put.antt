@@ -1,5 +1,6 @@
 -- Edits at a place that is known, once the name has been looked up.
-use Rattle.model.specs.Base.{ℕ, ◌+◌, ◌-◌, List, [], ◌∷◌, ◌++◌, cond, ltb, set}
+use Rattle.std.specs.Prelude.{◌+◌, ◌-◌, ◌∷◌, ◌++◌}
+use Rattle.model.specs.Base.{ℕ, List, [], cond, ltb, set}
 use Rattle.model.specs.declared.Enabled.{Enabled}
 use Rattle.model.specs.Memory.{System, Memory}
 use Rattle.model.specs.Effects.{with_systems}

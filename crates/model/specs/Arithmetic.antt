@@ -1,7 +1,7 @@
 -- Document 02 §5: the arithmetic of poses, by which recipe writers regroup chains. The statements only; `arithmetic_of_poses` in proofs/Poses proves them.
 -- Only `within` speaks of the offset limit; the other laws hold beyond it too, as for the resultants of long chains.
-use Rattle.std.specs.Prelude.{◌≤◌, ◌≡◌, ◌↔◌}
-use Rattle.model.specs.Base.{ℕ, List, ◌+◌, true, length}
+use Rattle.std.specs.Prelude.{◌≤◌, ◌≡◌, ◌↔◌, ◌+◌}
+use Rattle.model.specs.Base.{ℕ, List, true, length}
 use Rattle.model.specs.Types.{Rot, Vec3, Turns}
 use Rattle.model.specs.Pose.{Pose, turned, rot_of, placed, neutral, followed, inverse, triple, place, shown}
 use Rattle.model.specs.Memory.{System, Memory}

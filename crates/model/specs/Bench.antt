@@ -1,8 +1,8 @@
 -- The bench's own program, ksbench: the permanent memory lives in a file. What it does for its lines, act by act, and what the file then holds. It is not in
 -- the owners' documents; docs/USING.md tells it to whoever stands at the bench, and [ksbench] marks what renders that page. ksrun is the same session in
 -- another manner. The statements only; they are proved in proofs/Histories/Bench.
-use Rattle.std.specs.Prelude.{◌≡◌}
-use Rattle.model.specs.Base.{ℕ, List, [], ◌∷◌, ◌++◌, map, Bool, true, false, cond, not, ◌&&◌, Option, none, some, eqb, replicate}
+use Rattle.std.specs.Prelude.{◌≡◌, ◌∷◌, ◌++◌, ◌&&◌}
+use Rattle.model.specs.Base.{ℕ, List, [], map, Bool, true, false, cond, not, Option, none, some, eqb, replicate}
 use Rattle.model.specs.Lists.{kept, pieces}
 use Rattle.model.specs.Limits.{buffer_limit}
 use Rattle.model.specs.Memory.{State}

@@ -1,7 +1,7 @@
 -- The field engineer's checklist, from the owners' page of demands, as statements about the state after any history: a start, and any list of calls.
 -- The statements only; they are proved in proofs/.
-use Rattle.std.specs.Prelude.{◌≤◌, ◌≡◌}
-use Rattle.model.specs.Base.{ℕ, zero, suc, List, [], ◌∷◌, ◌++◌, map, Bool, true, false, ◌||◌, some, eqb, length, take}
+use Rattle.std.specs.Prelude.{◌≤◌, ◌≡◌, ◌∷◌, ◌++◌, ◌||◌}
+use Rattle.model.specs.Base.{ℕ, zero, suc, List, [], map, Bool, true, false, some, eqb, length, take}
 use Rattle.model.specs.Ascii.{ascii}
 use Rattle.model.specs.Lists.{any, same, one_of}
 use Rattle.model.specs.Types.{Operating, Orientational, Levelling}

@@ -1,7 +1,7 @@
 -- What is claimed of every call, in the owners' words: a refusal changes nothing, its number is exact, a line asks for nothing illegal, and a well-formed
 -- state stays well formed. The statements only; they are proved in proofs/Ladder and proofs/Histories.
-use Rattle.std.specs.Prelude.{◌≤◌, ◌≡◌, ◌↔◌}
-use Rattle.model.specs.Base.{ℕ, List, [], ◌∷◌, Bool, true, false, cond, not, ◌&&◌, ◌||◌, none, some, eqb}
+use Rattle.std.specs.Prelude.{◌≤◌, ◌≡◌, ◌↔◌, ◌∷◌, ◌&&◌, ◌||◌}
+use Rattle.model.specs.Base.{ℕ, List, [], Bool, true, false, cond, not, none, some, eqb}
 use Rattle.model.specs.Types.{Kind, Vec3, Turns, Position}
 use Rattle.model.specs.Lists.{any}
 use Rattle.model.specs.Kinds.{of_kind}

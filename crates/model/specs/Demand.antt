@@ -1,6 +1,6 @@
 -- Demand 3, with document 01, "The two lists of demand 3": the claim, as one statement about both whole lists. The statement only; it is proved in proofs/.
-use Rattle.std.specs.Prelude.{◌≤◌, ◌<◌, ◌≡◌, ◌⊎◌}
-use Rattle.model.specs.Base.{ℕ, List, [], ◌∷◌, ◌++◌, map, Bool, true, false, not, ◌&&◌, some, eqb, length}
+use Rattle.std.specs.Prelude.{◌≤◌, ◌<◌, ◌≡◌, ◌⊎◌, ◌∷◌, ◌++◌, ◌&&◌}
+use Rattle.model.specs.Base.{ℕ, List, [], map, Bool, true, false, not, some, eqb, length}
 use Rattle.model.specs.Types.{Kind, Ksd, Kst, Ksw, Ksb, Kld, Ksf, Operating, Orientational, Levelling, OperatingPart, Single, Pair}
 use Rattle.model.specs.Ascii.{ascii}
 use Rattle.model.specs.Limits.{max_systems, buffer_limit}

@@ -1,8 +1,8 @@
 -- Histories of the public calls over stored states, as the owners' program holds them: each call is given the stored state that the one before it returned,
 -- and all that is known of what it returned is the equation that it promises (`line_answer`, `position_answer`, `restart_answer` of Stored.antt). Demand 3 and the checklist hold of
 -- what such states stand for. The statements only; they are proved in proofs/Histories.
-use Rattle.std.specs.Prelude.{◌≤◌, ◌<◌, ◌≡◌}
-use Rattle.model.specs.Base.{ℕ, List, [], ◌∷◌, map, Bool, true, not, ◌&&◌, some, eqb, length, take}
+use Rattle.std.specs.Prelude.{◌≤◌, ◌<◌, ◌≡◌, ◌∷◌, ◌&&◌}
+use Rattle.model.specs.Base.{ℕ, List, [], map, Bool, true, not, some, eqb, length, take}
 use Rattle.model.specs.Types.{Position, StoredState}
 use Rattle.model.specs.Ascii.{ascii}
 use Rattle.model.specs.Limits.{buffer_limit}

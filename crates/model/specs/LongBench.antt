@@ -1,8 +1,8 @@
 -- Document 02 §4: the long bench. Own offsets reach two metres either way: that is `offset_limit` (specs/Limits.antt), which the reader of values,
 -- well-formedness, the image and every claim take by its name. Here is what the wider limit must not spoil: what was saved under the one before it.
 -- The statements only; they are proved in proofs/Histories/LongBench.
-use Rattle.std.specs.Prelude.{◌≡◌, ◌↔◌}
-use Rattle.model.specs.Base.{ℕ, List, Bool, true, not, ◌&&◌, ◌||◌, some, nat_abs, leb, length}
+use Rattle.std.specs.Prelude.{◌≡◌, ◌↔◌, ◌&&◌, ◌||◌}
+use Rattle.model.specs.Base.{ℕ, List, Bool, true, not, some, nat_abs, leb, length}
 use Rattle.model.specs.Types.{Vec3}
 use Rattle.model.specs.Lists.{all}
 use Rattle.model.specs.Limits.{max_systems, offset_limit}

@@ -1,7 +1,7 @@
 -- Document 02 §2: the test for use stops when the name is found. It says what the old test says, looks no farther than the name's first place and never at
 -- more than 20 systems, and its answer holds still with the enabled frames. The statements only; they are proved in proofs/Histories/Looking.
-use Rattle.std.specs.Prelude.{◌≤◌, ◌≡◌}
-use Rattle.model.specs.Base.{ℕ, suc, ◌+◌, List, ◌∷◌, ◌++◌, true, false, none, length}
+use Rattle.std.specs.Prelude.{◌≤◌, ◌≡◌, ◌+◌, ◌∷◌, ◌++◌}
+use Rattle.model.specs.Base.{ℕ, suc, List, true, false, none, length}
 use Rattle.model.specs.Types.{Group, StoredState}
 use Rattle.model.specs.Ascii.{ascii}
 use Rattle.model.specs.Lists.{one_of}

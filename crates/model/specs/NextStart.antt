@@ -1,8 +1,8 @@
 -- Document 02 §9: what the next start needs is not removed. KRM has one rung more, 20, which looks for the name in the permanent memory (specs/Refusals.antt).
 -- Here is what it shuts out and what it leaves free, what an accepted KRM can no longer do, and that a save sets a name free.
 -- The statements only; they are proved in proofs/Histories/NextStart.
-use Rattle.std.specs.Prelude.{◌≤◌, ◌≡◌}
-use Rattle.model.specs.Base.{ℕ, List, [], ◌∷◌, Bool, true, false, not, ◌&&◌, length, take}
+use Rattle.std.specs.Prelude.{◌≤◌, ◌≡◌, ◌∷◌, ◌&&◌}
+use Rattle.model.specs.Base.{ℕ, List, [], Bool, true, false, not, length, take}
 use Rattle.model.specs.Types.{StoredState}
 use Rattle.model.specs.Limits.{buffer_limit}
 use Rattle.model.specs.Memory.{State, is_user, named}

@@ -1,5 +1,6 @@
 -- Document 01, "Poses and chains": quarter turns, rotations, poses, and the shown triple; with the inverse of document 02 §5.
-use Rattle.model.specs.Base.{ℕ, zero, suc, ◌+◌, ◌*◌, ◌/◌, ◌%◌, Bool, ◌&&◌, ℤ, pos, neg_ℤ, ◌+ℤ◌, eqb}
+use Rattle.std.specs.Prelude.{◌+◌, ◌*◌, ◌/◌, ◌%◌, ◌&&◌, ◌+ℤ◌}
+use Rattle.model.specs.Base.{ℕ, zero, suc, Bool, ℤ, pos, neg_ℤ, eqb}
 use Rattle.model.specs.Types.{Dir, Px, Nx, Py, Ny, Pz, Nz, Rot, Vec3, Turns}
 use Rattle.model.specs.Lists.{least}
 

@@ -1,8 +1,8 @@
 -- Document 02 §7, the power switch. The bench goes off without warning, after any call. What was last saved is found by a walk along the calls, which looks
 -- at their numbers and at the volatile memory, never at the permanent one. That the machine keeps just this, and has it back when it is switched on, is
 -- the claim. The statements only; they are proved in proofs/Histories/Switched.
-use Rattle.std.specs.Prelude.{◌≤◌, ◌<◌, ◌≡◌}
-use Rattle.model.specs.Base.{ℕ, List, [], ◌∷◌, ◌++◌, Bool, true, false, cond, not, ◌&&◌, eqb, length, take}
+use Rattle.std.specs.Prelude.{◌≤◌, ◌<◌, ◌≡◌, ◌∷◌, ◌++◌, ◌&&◌}
+use Rattle.model.specs.Base.{ℕ, List, [], Bool, true, false, cond, not, eqb, length, take}
 use Rattle.model.specs.Types.{StoredState}
 use Rattle.model.specs.Limits.{buffer_limit}
 use Rattle.model.specs.Memory.{Memory, State, factory, started, zero_position}

@@ -1,6 +1,7 @@
 -- The reason of a refusal in words, for whoever sits at a terminal (ksbench). One sentence for each number; it begins with the word for what is wrong.
+use Rattle.std.specs.Prelude.{◌++◌}
 use Prim.Native.String.{String}
-use Rattle.model.specs.Base.{ℕ, List, ◌++◌, cond, eqb}
+use Rattle.model.specs.Base.{ℕ, List, cond, eqb}
 use Rattle.model.specs.Ascii.{ascii}
 use Rattle.model.specs.Reply.{decimal}
 

@@ -1,7 +1,7 @@
 -- Document 01, "Poses and chains" and "Memory and state": the resultant, the steps and the chain of a system, each by its predecessor's, in every
 -- well-formed memory. The statement only; it is proved in proofs/Chains.
-use Rattle.std.specs.Prelude.{◌≤◌, ◌<◌, ◌≡◌}
-use Rattle.model.specs.Base.{ℕ, suc, List, [], ◌∷◌, true, length}
+use Rattle.std.specs.Prelude.{◌≤◌, ◌<◌, ◌≡◌, ◌∷◌}
+use Rattle.model.specs.Base.{ℕ, suc, List, [], true, length}
 use Rattle.model.specs.Limits.{max_systems}
 use Rattle.model.specs.Pose.{turned, after, rot_of, plus, neutral}
 use Rattle.model.specs.Memory.{System, Memory, system_at}

@@ -1,7 +1,7 @@
 -- Document 02 §3: one frame seen from another. The laws of these poses, which lines ask for one, what KLT? A B prints and when it is refused, and that
 -- between frames in use it prints the same while demand 3 holds them still. The statements only; they are proved in proofs/Histories, Relative and Between.
-use Rattle.std.specs.Prelude.{◌≤◌, ◌≡◌}
-use Rattle.model.specs.Base.{ℕ, ◌+◌, List, [], ◌∷◌, ◌++◌, true, false, ◌&&◌, ◌||◌, leb, length, take}
+use Rattle.std.specs.Prelude.{◌≤◌, ◌≡◌, ◌+◌, ◌∷◌, ◌++◌, ◌&&◌, ◌||◌}
+use Rattle.model.specs.Base.{ℕ, List, [], true, false, leb, length, take}
 use Rattle.model.specs.Types.{Group, Operating, StoredState}
 use Rattle.model.specs.Ascii.{ascii}
 use Rattle.model.specs.Lists.{all}

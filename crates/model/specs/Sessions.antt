@@ -1,8 +1,8 @@
 -- Sessions with the machine, from lines of bytes to its answers: the language of specs/Table.antt and specs/Examples.antt. Every call goes through the
 -- machine's own step.
-use Rattle.std.specs.Prelude.{◌≡◌}
+use Rattle.std.specs.Prelude.{◌≡◌, ◌+◌, ◌*◌, ◌-◌, ◌∷◌, ◌++◌, ◌&&◌}
 use Prim.Native.String.{String}
-use Rattle.model.specs.Base.{ℕ, ℤ, ◌+◌, ◌*◌, ◌-◌, List, [], ◌∷◌, ◌++◌, map, Bool, true, false, cond, ◌&&◌, Option, none, some, eqb, leb, take, replicate}
+use Rattle.model.specs.Base.{ℕ, ℤ, List, [], map, Bool, true, false, cond, Option, none, some, eqb, leb, take, replicate}
 use Rattle.model.specs.Types.{Position}
 use Rattle.model.specs.Ascii.{ascii}
 use Rattle.model.specs.Lists.{same, pieces, joined}

@@ -1,7 +1,7 @@
 -- Document 02 §14: a sheet of all sixty-four triples of quarter turns, as they are typed and as they are shown. The text first, and then what is claimed of
 -- it; `all_on_the_sheet` in proofs/Poses/Sheet proves that.
-use Rattle.std.specs.Prelude.{◌≤◌, ◌≡◌}
-use Rattle.model.specs.Base.{ℕ, ◌*◌, ◌/◌, ◌^◌, List, [], ◌∷◌, ◌++◌, map, Bool, true, ◌&&◌, ◌||◌, eqb, ltb, length, get_or, take, drop}
+use Rattle.std.specs.Prelude.{◌≤◌, ◌≡◌, ◌*◌, ◌/◌, ◌^◌, ◌∷◌, ◌++◌, ◌&&◌, ◌||◌}
+use Rattle.model.specs.Base.{ℕ, List, [], map, Bool, true, eqb, ltb, length, get_or, take, drop}
 use Rattle.model.specs.Types.{Turns}
 use Rattle.model.specs.Ascii.{ascii}
 use Rattle.model.specs.Lists.{kept, different, table, same, pieces, joined}

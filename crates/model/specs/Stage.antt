@@ -1,5 +1,6 @@
 -- Document 02 §1: the platform's position, and the spot that it is over.
-use Rattle.model.specs.Base.{ℕ, Bool, not, ◌&&◌, nat_abs, eqb, leb}
+use Rattle.std.specs.Prelude.{◌&&◌}
+use Rattle.model.specs.Base.{ℕ, Bool, not, nat_abs, eqb, leb}
 use Rattle.model.specs.Types.{OperatingPart, Single, Pair, Angles, Position}
 use Rattle.model.specs.Limits.{angle_limit}
 use Rattle.model.specs.Pose.{Pose, unturned, followed}

@@ -1,7 +1,7 @@
 -- Document 02 §1: a frame where the stage is. What becomes of the position, which lines ask for KSF, when 15 refuses one, and what a frame is that KSF has
 -- made: its resultant is that of the enabled system, followed by the position. The statements only; they are proved in proofs/Histories, Positions and Located.
-use Rattle.std.specs.Prelude.{◌≤◌, ◌≡◌, ◌↔◌}
-use Rattle.model.specs.Base.{ℕ, List, [], ◌∷◌, true, false, cond, length}
+use Rattle.std.specs.Prelude.{◌≤◌, ◌≡◌, ◌↔◌, ◌∷◌}
+use Rattle.model.specs.Base.{ℕ, List, [], true, false, cond, length}
 use Rattle.model.specs.Types.{Vec3, Ksf, Single, Position, StoredState}
 use Rattle.model.specs.Ascii.{ascii}
 use Rattle.model.specs.Limits.{buffer_limit}

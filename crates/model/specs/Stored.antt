@@ -1,6 +1,6 @@
 -- What a stored value stands for (document 01, "Empty programs": free is only what lies beyond the last user system or a name's last byte).
-use Rattle.std.specs.Prelude.{◌≡◌}
-use Rattle.model.specs.Base.{ℕ, List, map, Bool, true, false, ◌&&◌, leb, take, replicate}
+use Rattle.std.specs.Prelude.{◌≡◌, ◌&&◌}
+use Rattle.model.specs.Base.{ℕ, List, map, Bool, true, false, leb, take, replicate}
 use Rattle.model.specs.Types.{Position, Name, StoredSystem, StoredMemory, StoredState}
 use Rattle.model.specs.Lists.{all}
 use Rattle.model.specs.Limits.{max_systems, name_limit}

@@ -1,7 +1,7 @@
 -- Document 01, "ksrun, and a table to hold": its cases as one statement, the worked example to the byte, and the five tempting points.
 -- Every case goes through the machine's own step, from lines of bytes. The statements only; they are proved in proofs/Table.
-use Rattle.std.specs.Prelude.{◌≡◌}
-use Rattle.model.specs.Base.{[], ◌∷◌, ◌++◌}
+use Rattle.std.specs.Prelude.{◌≡◌, ◌∷◌, ◌++◌}
+use Rattle.model.specs.Base.{[]}
 use Rattle.model.specs.Ascii.{ascii}
 use Rattle.model.specs.Machine.{write_image, start_factory}
 use Rattle.model.specs.Trace.{ksrun}

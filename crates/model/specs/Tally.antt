@@ -1,7 +1,7 @@
 -- Document 02 §10, a day's tally: how outcomes are counted, and what is printed of them. ksrun prints one (Trace.antt). An outcome is a line's number, 0 where
 -- the line was accepted. What is claimed of it is in TallyClaims.antt.
-use Rattle.std.specs.Prelude.{◌≡◌}
-use Rattle.model.specs.Base.{ℕ, zero, suc, ◌+◌, List, [], ◌∷◌, ◌++◌, cond, eqb, ltb, get_or, drop}
+use Rattle.std.specs.Prelude.{◌≡◌, ◌+◌, ◌∷◌, ◌++◌}
+use Rattle.model.specs.Base.{ℕ, zero, suc, List, [], cond, eqb, ltb, get_or, drop}
 use Rattle.model.specs.Ascii.{ascii}
 use Rattle.model.specs.Lists.{joined}
 use Rattle.model.specs.Limits.{most_counted}

@@ -1,6 +1,6 @@
 -- Document 02 §10: what is claimed of a tally, and of what ksrun counts. The statements only; they are proved in proofs/Histories/Tally.
-use Rattle.std.specs.Prelude.{◌≡◌}
-use Rattle.model.specs.Base.{ℕ, suc, ◌+◌, List, [], ◌∷◌, ◌++◌, map, Bool, true, cond, eqb, leb, ltb, length, take}
+use Rattle.std.specs.Prelude.{◌≡◌, ◌+◌, ◌∷◌, ◌++◌}
+use Rattle.model.specs.Base.{ℕ, suc, List, [], map, Bool, true, cond, eqb, leb, ltb, length, take}
 use Rattle.model.specs.Ascii.{ascii}
 use Rattle.model.specs.Lists.{all, kept, table, joined}
 use Rattle.model.specs.Limits.{most_counted}

@@ -1,6 +1,6 @@
 -- KEN? by its parts: the first line, the tool's if there is one, and the other two groups'.
-use Rattle.model.specs.Base.{ℕ, List, [], ◌++◌, Bool, true, false}
-use Rattle.std.specs.Prelude.{◌≤◌, ◌<◌}
+use Rattle.model.specs.Base.{ℕ, List, [], Bool, true, false}
+use Rattle.std.specs.Prelude.{◌≤◌, ◌<◌, ◌++◌}
 use Rattle.model.specs.Ascii.{ascii}
 use Rattle.model.specs.Limits.{name_limit}
 use Rattle.model.specs.Memory.{System}

@@ -1,6 +1,6 @@
 -- The lines of the lists, of the system that a line shows rather than of its place, and a list by what follows its first lines.
-use Rattle.model.specs.Base.{ℕ, zero, suc, List, [], ◌∷◌, ◌++◌, true, length}
-use Rattle.std.specs.Prelude.{◌≤◌, ◌≡◌}
+use Rattle.model.specs.Base.{ℕ, zero, suc, List, [], true, length}
+use Rattle.std.specs.Prelude.{◌≤◌, ◌≡◌, ◌∷◌, ◌++◌}
 use Rattle.reply.specs.Types.{Vec3, Turns, Group, Operating, Orientational, Levelling, StoredSystem}
 use Rattle.model.specs.Ascii.{ascii}
 use Rattle.model.specs.Lists.{joined}

@@ -1,11 +1,11 @@
 -- KLT?: the line of what a walk reached, and the system that a place is.
-use Rattle.model.specs.Base.{ℕ, zero, suc, ◌+◌, List}
+use Rattle.model.specs.Base.{ℕ, zero, suc, List}
 use Rattle.model.specs.Kinds.{of_group}
 use Rattle.model.specs.Pose.{shown}
 use Rattle.model.specs.Memory.{System, Ref, fixed_ref, user_ref}
 use Rattle.model.specs.Chain.{steps, pose_in}
 use Rattle.model.specs.Stored.{bytes_of}
-use Rattle.std.specs.Prelude.{◌≤◌, ◌<◌}
+use Rattle.std.specs.Prelude.{◌≤◌, ◌<◌, ◌+◌}
 use Rattle.model.specs.declared.Name.{Name}
 use Rattle.model.specs.Limits.{name_limit}
 use Rattle.pose.specs.Poses.{Within, reach}

@@ -1,5 +1,6 @@
 -- Own values and resultants as text, by parts.
-use Rattle.model.specs.Base.{ℕ, List, ◌++◌}
+use Rattle.std.specs.Prelude.{◌++◌}
+use Rattle.model.specs.Base.{ℕ, List}
 use Rattle.reply.specs.Types.{Vec3, Turns, Group, Operating, Orientational, Levelling}
 use Rattle.model.specs.Ascii.{ascii}
 use Rattle.model.specs.Reply.{value, degrees}

@@ -1,6 +1,6 @@
 -- What a lock file holds, and the name under which the system shows a descriptor.
-use Rattle.model.specs.Base.{ℕ, zero, suc, ◌+◌, ◌^◌, List, [], ◌∷◌, cond, eqb, ltb, length, drop, get_or}
-use Rattle.std.specs.Prelude.{◌≤◌, ◌<◌, ◌≡◌, ℤ, pos, negsuc}
+use Rattle.model.specs.Base.{ℕ, zero, suc, List, [], cond, eqb, ltb, length, drop, get_or}
+use Rattle.std.specs.Prelude.{◌≤◌, ◌<◌, ◌≡◌, ℤ, pos, negsuc, ◌+◌, ◌^◌, ◌∷◌}
 use Rattle.model.specs.Ascii.{ascii}
 use Rattle.model.specs.Lists.{joined, between}
 use Rattle.model.specs.Reply.{decimal}

@@ -1,6 +1,6 @@
 -- Places of files, as texts: what stands beside a path, the folder that holds it, and what a link's text means.
-use Rattle.model.specs.Base.{ℕ, zero, suc, List, [], ◌∷◌, ◌++◌, Bool, false, cond, eqb, leb, length, take}
-use Rattle.std.specs.Prelude.{◌≤◌, ◌≡◌}
+use Rattle.model.specs.Base.{ℕ, zero, suc, List, [], Bool, false, cond, eqb, leb, length, take}
+use Rattle.std.specs.Prelude.{◌≤◌, ◌≡◌, ◌∷◌, ◌++◌}
 use Rattle.model.specs.Ascii.{ascii}
 use Rattle.model.specs.Machine.{written}
 use Rattle.store.specs.declared.place.Step.{Step}

@@ -1,6 +1,6 @@
 -- The bench's program by examples: its acts, what the file holds then, and the words of a reason.
-use Rattle.std.specs.Prelude.{◌≡◌}
-use Rattle.model.specs.Base.{ℕ, List, [], ◌∷◌, ◌++◌, map, none, some}
+use Rattle.std.specs.Prelude.{◌≡◌, ◌∷◌, ◌++◌}
+use Rattle.model.specs.Base.{ℕ, List, [], map, none, some}
 use Rattle.model.specs.Ascii.{ascii}
 use Rattle.model.specs.Machine.{began, start_factory}
 use Rattle.model.specs.Reasons.{reason_line}

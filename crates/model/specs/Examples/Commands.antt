@@ -1,5 +1,6 @@
 -- Document 01, "Commands" and the lists, by examples.
-use Rattle.model.specs.Base.{[], ◌∷◌}
+use Rattle.std.specs.Prelude.{◌∷◌}
+use Rattle.model.specs.Base.{[]}
 use Rattle.model.specs.Sessions.{replies, lists, taken, number, hex, ◌⇒◌, writes, Session}
 
 -- ---- "Commands"

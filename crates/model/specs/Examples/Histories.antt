@@ -1,7 +1,7 @@
 -- Document 01, "The two lists of demand 3" and "ksrun", and document 02 §7, by examples.
 use Prim.Native.String.{String}
-use Rattle.std.specs.Prelude.{◌≡◌}
-use Rattle.model.specs.Base.{ℕ, List, [], ◌∷◌, map, true, false}
+use Rattle.std.specs.Prelude.{◌≡◌, ◌∷◌}
+use Rattle.model.specs.Base.{ℕ, List, [], map, true, false}
 use Rattle.model.specs.Ascii.{ascii}
 use Rattle.model.specs.Machine.{start_factory}
 use Rattle.model.specs.Trace.{Input, line, ksrun}

@@ -1,5 +1,6 @@
 -- Document 01, "Image", by examples.
-use Rattle.model.specs.Base.{ℕ, List, [], ◌∷◌, ◌++◌}
+use Rattle.std.specs.Prelude.{◌∷◌, ◌++◌}
+use Rattle.model.specs.Base.{ℕ, List, []}
 use Rattle.model.specs.Sessions.{replies, taken, number, hex, ◌⇒◌, restarts, writes, starts, Session}
 
 -- an image of every type, of links, and of a pair and the others enabled

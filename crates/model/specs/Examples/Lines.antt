@@ -1,6 +1,6 @@
 -- Document 01, "A line", by examples.
-use Rattle.std.specs.Prelude.{◌≡◌}
-use Rattle.model.specs.Base.{[], ◌∷◌, ◌++◌, replicate}
+use Rattle.std.specs.Prelude.{◌≡◌, ◌∷◌, ◌++◌}
+use Rattle.model.specs.Base.{[], replicate}
 use Rattle.model.specs.Ascii.{ascii}
 use Rattle.model.specs.Machine.{start_factory}
 use Rattle.model.specs.Sessions.{answer, replies, taken, number, sent, ◌⇒◌, Session}

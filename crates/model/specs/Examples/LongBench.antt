@@ -1,7 +1,7 @@
 -- Document 02 §4 by examples.
 use Prim.Native.String.{String}
-use Rattle.std.specs.Prelude.{◌≡◌}
-use Rattle.model.specs.Base.{ℕ, List, [], ◌∷◌, ◌++◌, map, Bool, true, false, none, some}
+use Rattle.std.specs.Prelude.{◌≡◌, ◌∷◌, ◌++◌}
+use Rattle.model.specs.Base.{ℕ, List, [], map, Bool, true, false, none, some}
 use Rattle.model.specs.Image.{accepted}
 use Rattle.model.specs.LongBench.{former_limit, memory_within}
 use Rattle.model.specs.Sessions.{replies, taken, number, hex, Turn, ◌⇒◌, restarts, writes, starts, Session}

@@ -1,6 +1,6 @@
 -- Document 01, "Memory and state" and "Poses and chains", by examples; among poses those of document 02 §5 and §14.
-use Rattle.std.specs.Prelude.{◌≡◌}
-use Rattle.model.specs.Base.{[], ◌∷◌, pos, neg_ℤ, get_or}
+use Rattle.std.specs.Prelude.{◌≡◌, ◌∷◌}
+use Rattle.model.specs.Base.{[], pos, neg_ℤ, get_or}
 use Rattle.model.specs.Ascii.{ascii}
 use Rattle.model.specs.Pose.{rot_of, inverse}
 use Rattle.model.specs.Sheet.{sheet_lines}

@@ -1,7 +1,7 @@
 -- Document 02 §9 by examples.
 use Prim.Native.String.{String}
-use Rattle.std.specs.Prelude.{◌≡◌}
-use Rattle.model.specs.Base.{List, [], ◌∷◌, map, true, false}
+use Rattle.std.specs.Prelude.{◌≡◌, ◌∷◌}
+use Rattle.model.specs.Base.{List, [], map, true, false}
 use Rattle.model.specs.Ascii.{ascii}
 use Rattle.model.specs.Machine.{start_factory}
 use Rattle.model.specs.Trace.{Call, line, entering}

@@ -1,6 +1,6 @@
 -- Document 01, "Error numbers", by examples.
-use Rattle.std.specs.Prelude.{◌≡◌}
-use Rattle.model.specs.Base.{ℕ, [], ◌∷◌, ◌++◌, map}
+use Rattle.std.specs.Prelude.{◌≡◌, ◌∷◌, ◌++◌}
+use Rattle.model.specs.Base.{ℕ, [], map}
 use Rattle.model.specs.Types.{Single}
 use Rattle.model.specs.Ascii.{ascii}
 use Rattle.model.specs.Memory.{Memory, State, factory, zero_position}

@@ -1,5 +1,6 @@
 -- Document 02 §3 by examples: one frame seen from another.
-use Rattle.model.specs.Base.{[], ◌∷◌}
+use Rattle.std.specs.Prelude.{◌∷◌}
+use Rattle.model.specs.Base.{[]}
 use Rattle.model.specs.Sessions.{replies, taken, number, ◌⇒◌, Session}
 
 pub record OfRelative : Type 0 where

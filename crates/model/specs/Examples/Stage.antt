@@ -1,6 +1,6 @@
 -- Document 02 §1 by examples: the position, and frames where the stage is.
-use Rattle.std.specs.Prelude.{◌≡◌}
-use Rattle.model.specs.Base.{[], ◌∷◌, ◌++◌, map, true, false, pos, negsuc}
+use Rattle.std.specs.Prelude.{◌≡◌, ◌∷◌, ◌++◌}
+use Rattle.model.specs.Base.{[], map, true, false, pos, negsuc}
 use Rattle.model.specs.Types.{Position}
 use Rattle.model.specs.Ascii.{ascii}
 use Rattle.model.specs.Memory.{factory}

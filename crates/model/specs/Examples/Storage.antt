@@ -1,6 +1,6 @@
 -- Document 01, "Empty programs": stored values, by examples.
-use Rattle.std.specs.Prelude.{◌≡◌}
-use Rattle.model.specs.Base.{ℕ, [], ◌∷◌, pos, negsuc, replicate, false}
+use Rattle.std.specs.Prelude.{◌≡◌, ◌∷◌}
+use Rattle.model.specs.Base.{ℕ, [], pos, negsuc, replicate, false}
 use Rattle.model.specs.Types.{Ksd, Kst, Enabled, Pair, Position, Name, StoredSystem, StoredMemory, StoredState}
 use Rattle.model.specs.Ascii.{ascii}
 use Rattle.model.specs.Pose.{origin}

@@ -1,6 +1,6 @@
 -- Document 02 §10 by examples.
-use Rattle.std.specs.Prelude.{◌≡◌}
-use Rattle.model.specs.Base.{[], ◌∷◌}
+use Rattle.std.specs.Prelude.{◌≡◌, ◌∷◌}
+use Rattle.model.specs.Base.{[]}
 use Rattle.model.specs.Ascii.{ascii}
 use Rattle.model.specs.Limits.{most_counted}
 use Rattle.model.specs.Tally.{Tally, count_of, counted_all, tallied, tally_text}

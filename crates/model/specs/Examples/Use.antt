@@ -1,7 +1,7 @@
 -- Document 02 §2 by examples: the systems looked at, and the answers to the question of use, in states that a few lines lead to.
 use Prim.Native.String.{String}
-use Rattle.std.specs.Prelude.{◌≡◌}
-use Rattle.model.specs.Base.{ℕ, List, [], ◌∷◌, map, true, false}
+use Rattle.std.specs.Prelude.{◌≡◌, ◌∷◌}
+use Rattle.model.specs.Base.{ℕ, List, [], map, true, false}
 use Rattle.model.specs.Ascii.{ascii}
 use Rattle.model.specs.Memory.{State}
 use Rattle.model.specs.Use.{names_looked_at}
