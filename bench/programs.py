@@ -10,9 +10,9 @@ here = pathlib.Path(__file__).resolve().parent
 
 
 def built(name):
-    path = here.parent / "target/bin" / name
+    path = here.parent / "crates" / name / "out" / name
     if not path.exists():
-        sys.exit("no %s: run `rt check %s` first" % (path, name))
+        sys.exit("no %s: run `rt check` in crates/%s first" % (path, name))
     return [str(path)]
 
 
