@@ -24,7 +24,7 @@ use Rattle.engine.specs.Answers.{returned}
 use Rattle.lines.specs.Feed.{Fed}
 use Rattle.lines.proofs.Feeding.{fed_nothing}
 use Rattle.lines.proofs.Places.{rest, rest_used, fed_part, fed_behind}
-use Rattle.session.specs.Feed.{acting, fed, ended, ended_acts}
+use Rattle.session.specs.Feed.{acting, ended_acts}
 use Rattle.session.specs.Blocks.{held_of, manner_of, with_due, Feeds, Ends}
 use Rattle.session.specs.declared.due.Manner.{Manner}
 use Rattle.session.specs.declared.due.Due.{Due}
