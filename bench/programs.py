@@ -12,7 +12,7 @@ here = pathlib.Path(__file__).resolve().parent
 def built(name):
     path = here.parent / "crates" / name / "out" / name
     if not path.exists():
-        sys.exit("no %s: run `rt check` in crates/%s first" % (path, name))
+        sys.exit("no %s: run `rt run < /dev/null` in crates/%s first" % (path, name))
     return [str(path)]
 
 
