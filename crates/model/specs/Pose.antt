@@ -35,7 +35,7 @@ row Nz r = flip r.c
 abbrev pub turned : Rot → Vec3 → Vec3
 turned r t = record { x = coord r.a t; y = coord r.b t; z = coord r.c t }
 
--- [Poses] R-as-S, first S and then R
+-- [Poses] R·S, first S and then R
 abbrev pub after : Rot → Rot → Rot
 after r s = record { a = row r.a s; b = row r.b s; c = row r.c s }
 
@@ -90,7 +90,7 @@ placed p q = plus p.at (turned p.rot q)
 abbrev pub neutral : Pose
 neutral = record { at = origin; rot = unturned }
 
--- [Poses] the predecessor's pose p, R followed by the own pose t, S: p + R·t and R-as-S
+-- [Poses] the predecessor's pose p, R followed by the own pose t, S: p + R·t and R·S
 abbrev pub followed : Pose → Pose → Pose
 followed p t = record { at = placed p t.at; rot = after p.rot t.rot }
 

@@ -18,7 +18,7 @@ pub record AtFixed (l : List System) : Type 0 where
 pub record OnPredecessor (l : List System) (k q : ℕ) : Type 0 where
   -- p + R·t
   pub offset : (resultant l k).at ≡ plus (resultant l q).at (turned (resultant l q).rot (system_at l k).offset)
-  -- R-as-S
+  -- R·S
   pub rotation : (resultant l k).rot ≡ after (resultant l q).rot (rot_of (system_at l k).turns)
   -- one more than the predecessor's, and 16 at most
   pub one_more : steps l k ≡ suc (steps l q)

@@ -54,3 +54,4 @@ abbrev pub Steps : List ℕ → Step → Type 0
 Steps after (Step.To n) = n ≤ length after
 Steps after Step.File = Unit {0}
 Steps after Step.Long = Unit {0}
+Steps after Step.Unread = Unit {0}

@@ -8,7 +8,10 @@ ghost use Rattle.store.specs.declared.mark.Mark.{Mark as Mark};
 
 use crate::mark::{DIGITS, Mark, ROOM, digits, put_mark, put_program, put_shown, read_mark};
 use crate::place::beside;
-use crate::reach::{S_IFMT, S_IFREG, create, link_text, mode_of, open_read, unlink};
+use crate::reach::{
+    S_IFMT, S_IFREG, create, is_same_file, is_unlinked, is_unreadable, link_text, mode_of,
+    open_read, unlink,
+};
 use crate::say::{complain, complain_taken, complain_unknown, complain_why};
 use std::fs::File;
 use std::io::{ErrorKind, Write};
@@ -57,11 +60,13 @@ fn shown_here(rt: HostRuntime, file: &File, out: &mut [u8]) -> std::io::Result<u
     shown(rt, b"self", &number[..k], out)
 }
 
-// Whether the lock of a descriptor has lost its name: the system then puts ` (deleted)` behind its path, which else ends in `.lock`.
+// Whether the lock of a descriptor has lost its name: the system then puts ` (deleted)` behind its path, which else ends in `.lock`. Where that path cannot be
+// had as text, the file itself is asked how many names it has.
 pub(crate) fn nameless(rt: HostRuntime, file: &File) -> bool {
     let mut path = io::buffer();
-    let Ok(n) = shown_here(rt, file, &mut path) else {
-        return false;
+    let n = match shown_here(rt, file, &mut path) {
+        Ok(n) => n,
+        Err(e) => return is_unreadable(e) && is_unlinked(file),
     };
     if n == 0 {
         return false;
@@ -89,8 +94,26 @@ fn unshown(rt: HostRuntime, process: &[u8]) -> Maker
     }
 }
 
-// Whether the maker's descriptor is on the file of this path.
-fn compared(rt: HostRuntime, process: &[u8], number: &[u8], path: &[u8]) -> Maker
+// Whether the maker's descriptor is on the file that is open here, where a path cannot be had as text.
+fn compared_by_file(rt: HostRuntime, process: &[u8], number: &[u8], file: &File) -> Maker
+    requires { Short process.now number.now }
+{
+    let mut name = [0u8; ROOM];
+    let n = put_shown(process, number, &mut name);
+    match is_same_file(rt, &name[..n], file) {
+        Ok(true) => Maker::Runs,
+        Ok(false) => Maker::Gone,
+        Err(e) => {
+            if e.kind() == ErrorKind::NotFound {
+                return Maker::Gone;
+            }
+            unshown(rt, process)
+        }
+    }
+}
+
+// Whether the maker's descriptor is on the file of this path, which is open here.
+fn compared(rt: HostRuntime, process: &[u8], number: &[u8], path: &[u8], file: &File) -> Maker
     requires { Short process.now number.now }
 {
     let mut theirs = io::buffer();
@@ -105,6 +128,9 @@ fn compared(rt: HostRuntime, process: &[u8], number: &[u8], path: &[u8]) -> Make
             if e.kind() == ErrorKind::NotFound {
                 return Maker::Gone;
             }
+            if is_unreadable(e) {
+                return compared_by_file(rt, process, number, file);
+            }
             unshown(rt, process)
         }
     }
@@ -115,10 +141,15 @@ fn maker_of(rt: HostRuntime, process: &[u8], number: &[u8], file: &File) -> Make
     requires { Short process.now number.now }
 {
     let mut path = io::buffer();
-    let Ok(n) = shown_here(rt, file, &mut path) else {
-        return Maker::Unknown;
-    };
-    compared(rt, process, number, &path[..n])
+    match shown_here(rt, file, &mut path) {
+        Ok(n) => compared(rt, process, number, &path[..n], file),
+        Err(e) => {
+            if is_unreadable(e) {
+                return compared_by_file(rt, process, number, file);
+            }
+            Maker::Unknown
+        }
+    }
 }
 
 // The same, after some patience: a program that was killed a moment ago may not have ended yet.

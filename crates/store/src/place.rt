@@ -3,7 +3,7 @@ ghost use Rattle.std.specs.Prelude.{◌≡◌, ◌++◌, ◌≤◌, length, take
 ghost use Rattle.io.specs.Counts.{IsPrefixLen};
 ghost use Rattle.store.specs.Place.{Placed, Steps, slash_end, folder_of, is_rooted, link_start, target_of, longest_path};
 
-use crate::reach::{PATH_MAX, is_symlink, link_text};
+use crate::reach::{PATH_MAX, is_symlink, is_unreadable, link_text};
 use crate::say::complain;
 use print::put_text;
 
@@ -105,25 +105,32 @@ fn relink(path: &mut [u8], n: usize, text: &[u8]) -> usize
     put_text(path, start, text)
 }
 
-// What is at a path: a link, and then the path that it means has this length; no link; or a link whose path is too long.
+// What is at a path: a link, and then the path that it means has this length; no link; a link whose path is too long; or one whose path cannot be had as text.
 #[derive(Clone, Copy)]
 enum Step {
     To(usize),
     File,
     Long,
+    Unread,
 }
 
-// One link is followed, in place. One whose text cannot be had, as it is no UTF-8, has no room here either.
+// One link is followed, in place.
 fn follow(rt: HostRuntime, path: &mut [u8], n: usize) -> Step
     requires { n ≤ length path.old }
     ensures { Steps path.new result }
 {
     let mut text = io::buffer();
-    let Ok(k) = link_text(rt, &path[..n], &mut text) else {
-        if is_symlink(rt, &path[..n]) {
-            return Step::Long;
+    let k = match link_text(rt, &path[..n], &mut text) {
+        Ok(k) => k,
+        Err(e) => {
+            if is_unreadable(e) {
+                return Step::Unread;
+            }
+            if is_symlink(rt, &path[..n]) {
+                return Step::Long;
+            }
+            return Step::File;
         }
-        return Step::File;
     };
     let m = relink(path, n, &text[..k]);
     if m == 0 {
@@ -157,6 +164,10 @@ fn settled(rt: HostRuntime, name: &[u8], step: Step, n: usize) -> usize
         Step::File => short_enough(rt, name, n),
         Step::Long => {
             complain(rt, name, b"the path that it links to is too long");
+            0
+        }
+        Step::Unread => {
+            complain(rt, name, b"the path that it links to is no text");
             0
         }
     }

@@ -5,7 +5,8 @@ ghost use Rattle.io.specs.Counts.{IsPrefixLen};
 
 use std::fs;
 use std::fs::{File, OpenOptions};
-use std::io::Error;
+use std::io::{Error, ErrorKind};
+use std::os::unix::fs::MetadataExt;
 
 // The room for a path, with C's 0 behind it.
 pub(crate) const PATH_MAX: usize = 4096;
@@ -29,10 +30,7 @@ fn text_of(path: &[u8]) -> std::io::Result<&str> {
 
 // The kind and mode of the file, links followed, or 0 where they cannot be told.
 pub(crate) fn mode_of(rt: HostRuntime, path: &[u8]) -> u32 {
-    match text_of(path) {
-        Ok(text) => status::mode_at(rt, text),
-        Err(_) => 0,
-    }
+    status::mode_at(rt, path)
 }
 
 // Asks for the file and opens nothing: an error, which says why, where it is not there.
@@ -50,6 +48,31 @@ pub(crate) fn is_symlink(rt: HostRuntime, path: &[u8]) -> bool {
     match fs::symlink_metadata(&rt, text) {
         Ok(found) => found.is_symlink(),
         Err(_) => false,
+    }
+}
+
+// Whether the file that the name leads to is the one that is open here.
+pub(crate) fn is_same_file(rt: HostRuntime, path: &[u8], file: &File) -> std::io::Result<bool> {
+    let text = text_of(path)?;
+    let theirs = fs::metadata(&rt, text)?;
+    let ours = file.metadata()?;
+    Ok(theirs.dev() == ours.dev() && theirs.ino() == ours.ino())
+}
+
+// Whether the open file has lost its last name.
+pub(crate) fn is_unlinked(file: &File) -> bool {
+    match file.metadata() {
+        Ok(found) => found.nlink() == 0,
+        Err(_) => false,
+    }
+}
+
+// Whether a link is there, and its text cannot be had: it is no UTF-8, or there is no memory for it.
+pub(crate) fn is_unreadable(why: Error) -> bool {
+    match why.kind() {
+        ErrorKind::InvalidFilename => why.raw_os_error().is_none(),
+        ErrorKind::OutOfMemory => true,
+        _ => false,
     }
 }
 

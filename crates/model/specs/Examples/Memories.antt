@@ -61,7 +61,7 @@ pub record OfPoses : Type 0 where
       ∷ "KLT? B" ⇒ replies "Name=B EndCoordinateSystem=ZERO X=-2.000000 Y=1.000000 Z=3.000000 U=0.000000 V=0.000000 W=90.000000 Steps=2\n"
       ∷ "KSD A U 90 V 180 W 90" ⇒ taken
       ∷ "KLT? B" ⇒ replies "Name=B EndCoordinateSystem=ZERO X=2.000000 Y=3.000000 Z=1.000000 U=90.000000 V=180.000000 W=90.000000 Steps=2\n" ∷ [])
-  -- [Poses] R-as-S: the predecessor's rotation stands first
+  -- [Poses] R·S: the predecessor's rotation stands first
   pub product : Session (
       "KSD A U 90" ⇒ taken ∷ "KSD B W 90" ⇒ taken ∷ "KLN B A" ⇒ taken
       ∷ "KLT? B" ⇒ replies "Name=B EndCoordinateSystem=ZERO X=0.000000 Y=0.000000 Z=0.000000 U=90.000000 V=0.000000 W=90.000000 Steps=2\n"
