@@ -14,7 +14,7 @@ use crate::reach::{
 };
 use crate::say::{complain, complain_taken, complain_unknown, complain_why};
 use std::fs::File;
-use std::io::{ErrorKind, Write};
+use std::io::{Error, ErrorKind, Write};
 use std::os::fd::AsRawFd;
 use std::os::unix::fs::FileExt;
 use std::process;
@@ -75,11 +75,14 @@ pub(crate) fn nameless(rt: HostRuntime, file: &File) -> bool {
     path[last] == b')'
 }
 
-// The maker's descriptor is not shown. A process that was killed, and that its parent has not yet waited for, shows none even to its own user; but then it runs
-// no program either.
-fn unshown(rt: HostRuntime, process: &[u8]) -> Maker
+// The maker's descriptor is not shown: it is not there, or may not be seen. A process that was killed, and that its parent has not yet waited for, shows none even
+// to its own user; but then it runs no program either.
+fn unshown(rt: HostRuntime, process: &[u8], why: Error) -> Maker
     requires { length process.now ≤ longest_number }
 {
+    if why.kind() == ErrorKind::NotFound {
+        return Maker::Gone;
+    }
     let mut name = [0u8; ROOM];
     let n = put_program(process, &mut name);
     let mut text = [0u8; 1];
@@ -103,12 +106,7 @@ fn compared_by_file(rt: HostRuntime, process: &[u8], number: &[u8], file: &File)
     match is_same_file(rt, &name[..n], file) {
         Ok(true) => Maker::Runs,
         Ok(false) => Maker::Gone,
-        Err(e) => {
-            if e.kind() == ErrorKind::NotFound {
-                return Maker::Gone;
-            }
-            unshown(rt, process)
-        }
+        Err(e) => unshown(rt, process, e),
     }
 }
 
@@ -125,13 +123,10 @@ fn compared(rt: HostRuntime, process: &[u8], number: &[u8], path: &[u8], file: &
             Maker::Gone
         }
         Err(e) => {
-            if e.kind() == ErrorKind::NotFound {
-                return Maker::Gone;
-            }
             if is_unreadable(e) {
                 return compared_by_file(rt, process, number, file);
             }
-            unshown(rt, process)
+            unshown(rt, process, e)
         }
     }
 }

@@ -126,9 +126,6 @@ fn follow(rt: HostRuntime, path: &mut [u8], n: usize) -> Step
             if is_unreadable(e) {
                 return Step::Unread;
             }
-            if is_symlink(rt, &path[..n]) {
-                return Step::Long;
-            }
             return Step::File;
         }
     };
