@@ -7,6 +7,10 @@ use native.Mathlib.Omega.{arith}
 use borrow.Author.Tests.{le-ltb}
 use lib.ListN.{length, take, drop, length-append}
 use lib.Seq.{take-append_seam}
+use Rattle.std.proofs.Common.{Ok, Err}
+use Rattle.std.specs.Prelude.{Result}
+use Rattle.std.specs.Result.{result_unwrap_or}
+use Rattle.facts.specs.declared.refusals.Refusal.{Refusal}
 use Rattle.model.specs.declared.State.{State as StoredState}
 use Rattle.model.specs.Limits.{buffer_limit}
 use Rattle.model.specs.Memory.{State}
@@ -20,17 +24,16 @@ use Rattle.model.proofs.Views.{view_holds}
 use Rattle.model.proofs.Ladder.Refusing.{image_fine}
 use Rattle.model.proofs.Histories.Stored.{write_promised}
 use Rattle.engine.specs.declared.answer.Stepped.{Stepped}
-use Rattle.engine.specs.Answers.{returned}
+use Rattle.engine.specs.Answers.{returned, written_by}
 use Rattle.lines.specs.Feed.{Fed}
 use Rattle.lines.proofs.Feeding.{fed_nothing}
 use Rattle.lines.proofs.Places.{rest, rest_used, fed_part, fed_behind}
 use Rattle.session.specs.Feed.{acting, ended_acts}
-use Rattle.session.specs.Blocks.{held_of, manner_of, with_due, Feeds, Ends}
+use Rattle.session.specs.Blocks.{held_of, manner_of, reason_number, with_due, Feeds, Ends}
 use Rattle.session.specs.declared.due.Manner.{Manner}
 use Rattle.session.specs.declared.due.Due.{Due}
 use Rattle.session.specs.declared.feed.Session.{Session}
 use Rattle.session.specs.declared.feed.Fed.{Fed as StoredFed}
-use Rattle.session.specs.declared.feed.Answer.{Answer}
 use Rattle.session.proofs.Rest.{replied_first}
 use Rattle.bench.specs.Serve.{given, outgoing, Imaged}
 
@@ -38,18 +41,23 @@ use Rattle.bench.specs.Serve.{given, outgoing, Imaged}
 
 -- what the machine's call wrote, in a well-formed state
 pub image_written : (d : Due) (s : StoredState) → FineState s → (b : List ℕ) → buffer_limit ≤ length b → (r : Stepped) (after : List ℕ) →
-    WritePromise s b (returned r after) → Imaged d s after r.length
+    WritePromise s b (returned r after) → Imaged d s after (written_by r.outcome)
 unfolding short
 image_written d s fine b room r after p =
     let st = state_of s in
     let i = image st.permanent in
     let e = write_promised s st (view_holds s fine.shape) b (returned r after) p ∙ ap of_outcome (image_fine st b fine.formed (le-ltb (length b) buffer_limit room)) in
-    let count : r.length ≡ length i = ap (λ (a : Answered). a.count) e in
+    let count : written_by r.outcome ≡ length i = ap (λ (a : Answered). a.count) e in
     let bytes : after ≡ i ++ drop (length i) b = ap (λ (a : Answered). a.buffer) e in
     record {
       within = rw bytes (omega (arith, count, length-append i (drop (length i) b)));
       bytes = λ t. rw (bytes, count) (take-append_seam i (drop (length i) b));
     }
+
+-- of a refusal, no byte
+pub written_is : (r : Result ℕ Refusal) (n : ℕ) → n ≡ result_unwrap_or r 0 → n ≡ written_by r
+written_is (Ok k) n e = e
+written_is (Err why) n e = e
 
 -- where none is due, none is there
 pub image_undue : (d : Due) (s : StoredState) (b : List ℕ) → d.store ≡ false → Imaged d s b 0
@@ -63,7 +71,7 @@ stored_as false st bytes e = refl
 -- what is due is what goes out
 due_out : (answers : List ℕ) (d : Due) (s : StoredState) (buffer : List ℕ) (n : ℕ) → Imaged d s buffer n → with_due answers d s ≡ outgoing answers d (take n buffer)
 due_out answers d s buffer n i =
-    ap (λ (x : List Act). map prints answers ++ (x ++ reason_acts d.reason)) (stored_as d.store (state_of s) (take n buffer) i.bytes)
+    ap (λ (x : List Act). map prints answers ++ (x ++ reason_acts (reason_number d.reason))) (stored_as d.store (state_of s) (take n buffer) i.bytes)
 
 -- ---- before the first byte
 
@@ -73,7 +81,7 @@ given_nothing k s = ap (λ (x : Fed State Act). x.held) (sym (fed_nothing (actin
 -- ---- a session t that holds what s gives for a block up to a place, and what was fed of the rest
 
 module _ (k : Manner) (s : Session) (block : List ℕ) (t : Session) (at : ℕ) (held : held_of t ≡ (given k s (take at block)).held) (before after : List ℕ) (f : StoredFed)
-    (feeds : Feeds k t.state t.tally (held_of t).line (rest block at) before after f) (end : ℕ) (e : end ≡ at + f.used) where
+    (feeds : Feeds k t (rest block at) before after f) (end : ℕ) (e : end ≡ at + f.used) where
   abbrev part : List ℕ
   part = take (end - at) (drop at block)
 
@@ -103,8 +111,8 @@ module _ (k : Manner) (s : Session) (block : List ℕ) (t : Session) (at : ℕ) 
 
 -- ---- the end of the input
 
-pub last_handed : (k : Manner) (s : Session) (before after : List ℕ) (r : Answer) → Ends k s before after r → (buffer : List ℕ) (n : ℕ) →
-    Imaged r.due r.state buffer n → ended_acts (manner_of k) (held_of s) ≡ outgoing (take r.written after) r.due (take n buffer)
+pub last_handed : (k : Manner) (s : Session) (before after : List ℕ) (r : StoredFed) → Ends k s before after r → (buffer : List ℕ) (n : ℕ) →
+    Imaged r.due r.session.state buffer n → ended_acts (manner_of k) (held_of s) ≡ outgoing (take r.written after) r.due (take n buffer)
 last_handed k s before after r ends buffer n i =
-    ends.acts ∙ ap (λ (a : List ℕ). with_due a r.due r.state) (sym (replied_first ends.puts))
-    ∙ due_out (take r.written after) r.due r.state buffer n i
+    ends.acts ∙ ap (λ (a : List ℕ). with_due a r.due r.session.state) (sym (replied_first ends.puts))
+    ∙ due_out (take r.written after) r.due r.session.state buffer n i

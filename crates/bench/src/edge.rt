@@ -10,9 +10,9 @@ ghost use Rattle.bench.specs.Serve.{given, outgoing, Hands};
 use reasons::put_reason;
 use session::due::{Due, Manner};
 use session::feed::Session;
-use std::fs::File;
 use std::io::Print;
-use store::save::save;
+use store::save::{Target, save};
+use store::say::{Complained, say};
 
 // The receipt: all that is due for a block up to this place was handed out. The place is this module's own.
 #[derive(Clone, Copy)]
@@ -20,17 +20,10 @@ pub struct Receipt {
     at: usize,
 }
 
-// What handing out left: the receipt, and whether all could be done.
-#[derive(Clone, Copy)]
-pub struct Handed {
-    pub receipt: Receipt,
-    pub ok: bool,
-}
-
-// That the end of the input was handed out. Whether it could be done is this module's own.
+// That the end of the input was handed out. Only this module makes one.
 #[derive(Clone, Copy)]
 pub struct Last {
-    done: bool,
+    made: (),
 }
 
 // Before the first byte of a block.
@@ -43,7 +36,7 @@ pub(crate) fn nothing_handed() -> Receipt
 fn write_reason(rt: HostRuntime, number: u8, text: &[u8])
     requires { text.now ≡ reason_line number }
 {
-    let _ = Print::write_all(&rt.stderr(), text);
+    say(rt, text);
 }
 
 fn explain(rt: HostRuntime, number: u8) {
@@ -52,38 +45,29 @@ fn explain(rt: HostRuntime, number: u8) {
     write_reason(rt, number, &text[..n]);
 }
 
-fn write_answers(rt: HostRuntime, answers: &[u8]) -> bool {
-    if Print::write_all(&rt.stdout(), answers).is_ok() {
-        return true;
-    }
-    let _ = Print::write_all(
-        &rt.stderr(),
+fn write_answers(rt: HostRuntime, answers: &[u8]) -> Result<(), Complained> {
+    Print::write_all(&rt.stdout(), answers).map_err(|_| say(
+        rt,
         b"ksbench: standard output cannot be written\n",
-    );
-    false
+    ))
 }
 
 // Answers to standard output, then the image to the file, then the reason to standard error. What fails has said so, and nothing is done after it.
 fn hand_out(
     rt: HostRuntime,
-    path: &[u8],
+    to: Target<'_, '_>,
     answers: &[u8],
     due: Due,
     image: &[u8],
-    lock: Option<&File>,
-) -> bool {
-    if !write_answers(rt, answers) {
-        return false;
-    }
+) -> Result<(), Complained> {
+    write_answers(rt, answers)?;
     if due.store {
-        if !save(rt, path, lock, image) {
-            return false;
-        }
+        save(rt, to, image)?;
     }
-    if due.reason != 0 {
-        explain(rt, due.reason);
+    if let Some(why) = due.reason {
+        explain(rt, u8::from(why));
     }
-    true
+    Ok(())
 }
 
 // For a block of a session s, from the receipt's place on up to another.
@@ -94,24 +78,16 @@ pub(crate) fn hand_out_part(
     block: &[u8],
     before: Receipt,
     end: usize,
-    path: &[u8],
+    to: Target<'_, '_>,
     answers: &[u8],
     due: Due,
     image: &[u8],
-    lock: Option<&File>,
-) -> Handed
+) -> Result<Receipt, Complained>
     requires { (given k s (take end block.now)).output ≡ (given k s (take before.at block.now)).output ++ outgoing answers.now due image.now }
     ensures { Hands end result }
 {
-    let ok = hand_out(rt, path, answers, due, image, lock);
-    if ok {
-        let receipt = Receipt { at: end };
-        return Handed { receipt, ok: true };
-    }
-    Handed {
-        receipt: before,
-        ok: false,
-    }
+    hand_out(rt, to, answers, due, image)?;
+    Ok(Receipt { at: end })
 }
 
 // For the end of the input, where what is held is a line.
@@ -119,14 +95,13 @@ pub(crate) fn hand_out_last(
     rt: HostRuntime,
     k: Manner,
     s: Session,
-    path: &[u8],
+    to: Target<'_, '_>,
     answers: &[u8],
     due: Due,
     image: &[u8],
-    lock: Option<&File>,
-) -> Last
+) -> Result<Last, Complained>
     requires { ended_acts (manner_of k) (held_of s) ≡ outgoing answers.now due image.now }
 {
-    let done = hand_out(rt, path, answers, due, image, lock);
-    Last { done }
+    hand_out(rt, to, answers, due, image)?;
+    Ok(Last { made: () })
 }

@@ -4,7 +4,7 @@ use mathlib.Core.Path.{◌≡◌, sym, ap, subst}
 use mathlib.Core.List.{List}
 use native.Mathlib.Omega.{arith}
 use lib.IntN.{ℤ}
-use lib.ListN.{length, take, length-take, length-map}
+use lib.ListN.{length, length-map}
 use Rattle.model.specs.declared.Memory.{Memory as StoredMemory}
 use Rattle.model.specs.declared.OperatingPart.{OperatingPart}
 use Rattle.model.specs.declared.OperatingPart.TheVariants.{Single, Pair}
@@ -14,28 +14,20 @@ use Rattle.model.specs.Stored.{systems_of, memory_of, FineMemory}
 use Rattle.model.proofs.Chains.Frames.{PartHas, enabled_within}
 use Rattle.model.proofs.Memories.Fine.{fine_of}
 use Rattle.model.proofs.Shape.{shaped_count, systems_of_count}
-use Rattle.chains.specs.Flat.{preds_of, LinksOf}
+use Rattle.chains.specs.Flat.{preds_of}
 use Rattle.chains.specs.Frames.{framed, frames_of}
 use Rattle.chains.specs.Walk.{Walk, walked, undone_of, Walkable, Laid, Enough, Near}
 use Rattle.chains.proofs.Reaching.{walked_near, walked_undone}
 use Rattle.chains.proofs.Ready.{walkable, ready, ready_at, ready_walk}
 
+-- preds are the flat links, and the offsets and turns lie beside them
 pub record FlatOf (m : StoredMemory) (preds : List ℕ) (offsets : List ℤ) (turns : List ℕ) : Type 0 where
   pub good : FineMemory m
   pub long : length m.systems ≡ 16
-  pub many : length preds ≡ 16
-  pub links : take m.count preds ≡ preds_of (systems_of m)
+  pub links : preds ≡ preds_of (systems_of m)
   pub frames : framed offsets turns (preds_of (systems_of m)) ≡ frames_of (systems_of m)
   pub wide : length offsets ≡ 48
   pub broad : length turns ≡ 48
-
-pub flat_of : (m : StoredMemory) {preds : List ℕ} {offsets : List ℤ} {turns : List ℕ} {n : ℕ}
-    → FineMemory m → length m.systems ≡ 16 → LinksOf (systems_of m) preds n → length preds ≡ 16
-    → framed offsets turns (preds_of (systems_of m)) ≡ frames_of (systems_of m) → length offsets ≡ 48 → length turns ≡ 48 → FlatOf m preds offsets turns
-flat_of m {preds = preds} {n = n} good long links many frames wide broad =
-    let e : n ≡ m.count =
-    omega (arith, links.few, length-take n preds, ap length links.links, length-map (systems_of m) (λ (s : System). s.pred), systems_of_count m good.shape long) in
-    record { good = good; long = long; many = many; links = rw e at links.links; frames = frames; wide = wide; broad = broad }
 
 module _ {m : StoredMemory} {preds : List ℕ} {offsets : List ℤ} {turns : List ℕ} (flat : FlatOf m preds offsets turns) where
   can : Walkable (systems_of m)
@@ -47,20 +39,20 @@ module _ {m : StoredMemory} {preds : List ℕ} {offsets : List ℤ} {turns : Lis
   pub held : m.count ≤ 16
   held = shaped_count m flat.good.shape
 
-  pub taken : m.count ≡ length (take m.count preds)
-  taken = omega (arith, held, flat.many, length-take m.count preds)
+  pub taken : m.count ≡ length preds
+  taken = omega (arith, as_many, ap length flat.links, length-map (systems_of m) (λ (s : System). s.pred))
 
-  pub can_walk : Laid offsets turns (take m.count preds)
+  pub can_walk : Laid offsets turns preds
   can_walk =
       let f = held in
-      ready (systems_of m) can offsets turns (take m.count preds) flat.links flat.frames (omega (arith, as_many, flat.wide)) (omega (arith, as_many, flat.broad))
+      ready (systems_of m) can offsets turns preds flat.links flat.frames (omega (arith, as_many, flat.wide)) (omega (arith, as_many, flat.broad))
 
-  pub deep_enough : (q : ℕ) → q ≤ m.count → Enough (framed offsets turns (take m.count preds)) q 16
-  deep_enough q h = ready_at (systems_of m) can offsets turns (take m.count preds) flat.links flat.frames q (omega (arith, as_many))
+  pub deep_enough : (q : ℕ) → q ≤ m.count → Enough (framed offsets turns preds) q 16
+  deep_enough q h = ready_at (systems_of m) can offsets turns preds flat.links flat.frames q (omega (arith, as_many))
 
   -- what the flat numbers lead to is what the memory's own chains lead to
-  pub flat_walk : (q : ℕ) → walked (framed offsets turns (take m.count preds)) q ≡ walked (systems_of m) q
-  flat_walk q = ready_walk (systems_of m) can offsets turns (take m.count preds) flat.links flat.frames q
+  pub flat_walk : (q : ℕ) → walked (framed offsets turns preds) q ≡ walked (systems_of m) q
+  flat_walk q = ready_walk (systems_of m) can offsets turns preds flat.links flat.frames q
 
   -- and no farther off
   pub walk_near : (q : ℕ) → q ≤ m.count → {w : Walk} → w ≡ walked (systems_of m) q → Near w

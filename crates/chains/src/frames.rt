@@ -6,7 +6,8 @@ ghost use Rattle.chains.specs.Flat.{preds_of, LinksOf};
 ghost use Rattle.chains.specs.Frames.{framed, frames_of};
 ghost use Rattle.chains.specs.Walk.{walk_of, walked, at_fixed, link_on, undone_of, pose_at, Holds, Linkable, Laid, Enough, Near, Known, Reaches};
 
-use crate::links::{Links, held};
+use crate::held::held;
+use crate::links::Links;
 use facts::limits::MAX_SYSTEMS;
 use model::{Memory, Rot, Turns, Vec3};
 use pose::Pose;
@@ -22,25 +23,16 @@ pub struct Frames {
 pub fn frames_of(m: Memory) -> Frames
     ensures { framed result.offsets result.turns (preds_of (systems_of m)) ≡ frames_of (systems_of m) }
 {
-    let count = held(m.count);
     let mut offsets = [0i64; MAX_SYSTEMS * 3];
     let mut turns = [0u8; MAX_SYSTEMS * 3];
-    let mut i = 0;
-    while i < count {
-        let s = m.systems[i];
-        let t = s.offset;
-        let u = s.turns;
+    for (i, s) in held(&m.systems, m.count).iter().enumerate() {
         let at = i * 3;
-        let x = t.x;
-        let y = t.y;
-        let z = t.z;
-        offsets[at] = x;
-        offsets[at + 1] = y;
-        offsets[at + 2] = z;
-        turns[at] = u.u;
-        turns[at + 1] = u.v;
-        turns[at + 2] = u.w;
-        i += 1;
+        offsets[at] = s.offset.x;
+        offsets[at + 1] = s.offset.y;
+        offsets[at + 2] = s.offset.z;
+        turns[at] = s.turns.u;
+        turns[at + 1] = s.turns.v;
+        turns[at + 2] = s.turns.w;
     }
     Frames { offsets, turns }
 }
@@ -60,15 +52,17 @@ fn own(offsets: &[i64], turns: &[u8], i: usize) -> Pose
     ensures { pose_of result ≡ pose_at offsets.now turns.now i }
 {
     let at = i * 3;
-    let x = offsets[at];
-    let y = offsets[at + 1];
-    let z = offsets[at + 2];
-    let u = turns[at];
-    let v = turns[at + 1];
-    let w = turns[at + 2];
-    let t = Vec3 { x, y, z };
-    let s = Turns { u, v, w };
-    Pose::of(t, s)
+    let offset = Vec3 {
+        x: offsets[at],
+        y: offsets[at + 1],
+        z: offsets[at + 2],
+    };
+    let own_turns = Turns {
+        u: turns[at],
+        v: turns[at + 1],
+        w: turns[at + 2],
+    };
+    Pose::of(offset, own_turns)
 }
 
 // What is reached at a fixed system, before any link.
@@ -76,9 +70,11 @@ pub fn unmoved() -> Reached
     ensures { walk_of result ≡ at_fixed }
 {
     let pose = Pose::neutral();
-    let at = pose.at;
-    let rot = pose.rot;
-    Reached { at, rot, steps: 0 }
+    Reached {
+        at: pose.at,
+        rot: pose.rot,
+        steps: 0,
+    }
 }
 
 // One link on: the own pose of system i followed on from what its predecessor reached.
@@ -86,18 +82,17 @@ fn linked(before: Reached, offsets: &[i64], turns: &[u8], i: usize) -> Reached
     requires { Linkable offsets.now turns.now i (walk_of before) }
     ensures { walk_of result ≡ link_on (walk_of before) (pose_at offsets.now turns.now i) }
 {
-    let own_pose = own(offsets, turns, i);
-    let near = before.at;
-    let turned = before.rot;
     let so_far = Pose {
-        at: near,
-        rot: turned,
+        at: before.at,
+        rot: before.rot,
     };
-    let pose = so_far.follow(own_pose);
-    let at = pose.at;
-    let rot = pose.rot;
+    let pose = so_far.follow(own(offsets, turns, i));
     let steps = before.steps + 1;
-    Reached { at, rot, steps }
+    Reached {
+        at: pose.at,
+        rot: pose.rot,
+        steps,
+    }
 }
 
 // The resultant of a place and its steps, by a walk to its predecessor with one link less of depth. It ends at the fixed system, or sooner at a
@@ -141,14 +136,10 @@ pub fn walk_from(m: Memory, links: Links, place: u8) -> Reached
         return start;
     }
     let frames = frames_of(m);
-    let preds = links.preds;
-    let offsets = frames.offsets;
-    let turns = frames.turns;
-    let count = m.count as usize;
     reach(
-        &offsets,
-        &turns,
-        &preds[..count],
+        &frames.offsets,
+        &frames.turns,
+        links.flat(),
         0,
         start,
         place as usize,
@@ -161,15 +152,14 @@ pub fn undone(r: Reached) -> Reached
     requires { Near (walk_of r) }
     ensures { walk_of result ≡ undone_of (walk_of r) }
 {
-    let there = r.at;
-    let turned = r.rot;
-    let pose = Pose {
-        at: there,
-        rot: turned,
+    let there = Pose {
+        at: r.at,
+        rot: r.rot,
     };
-    let back = pose.inverse();
-    let at = back.at;
-    let rot = back.rot;
-    let steps = r.steps;
-    Reached { at, rot, steps }
+    let back = there.inverse();
+    Reached {
+        at: back.at,
+        rot: back.rot,
+        steps: r.steps,
+    }
 }

@@ -1,5 +1,5 @@
 // The links of a memory: what the questions of ring, chain and use look at.
-ghost use Rattle.std.specs.Prelude.{◌≡◌, ◌-◌, min, eqb, length};
+ghost use Rattle.std.specs.Prelude.{◌≡◌, ◌≤◌, ◌-◌, eqb, length, take};
 ghost use Rattle.model.specs.Limits.{max_systems};
 ghost use Rattle.model.specs.Chain.{pred_of, hop, on_chain, no_ring};
 ghost use Rattle.model.specs.Lists.{search, after};
@@ -7,22 +7,25 @@ ghost use Rattle.model.specs.Stored.{systems_of};
 ghost use Rattle.chains.specs.Flat.{linked_by, LinksOf};
 ghost use Rattle.chains.specs.Searches.{search_of, down};
 
+use crate::held::held;
 use facts::limits::MAX_SYSTEMS;
 use model::Memory;
 
-// The predecessors' places of the first count systems.
+// The predecessors' places of the first count systems. (There is no heap: the array has room for all.)
 #[derive(Clone, Copy)]
 pub struct Links {
     pub preds: [u8; MAX_SYSTEMS],
     pub count: usize,
+    pub ghost few: { count ≤ max_systems },
 }
 
-// How many systems a memory has: a count beyond the array means the whole array.
-pub fn held(count: u8) -> usize
-    ensures { result ≡ min count max_systems }
-{
-    let n = count as usize;
-    if n < MAX_SYSTEMS { n } else { MAX_SYSTEMS }
+impl Links {
+    // The places of those that count.
+    pub fn flat(&self) -> &[u8]
+        ensures { result.now ≡ take self.now.count self.now.preds }
+    {
+        &self.preds[..self.count]
+    }
 }
 
 // The links of a memory, whatever it holds: a predecessor's place may lie beyond the last system. The whole array is laid flat, so that the number of
@@ -30,13 +33,11 @@ pub fn held(count: u8) -> usize
 pub fn links_of(m: Memory) -> Links
     ensures { LinksOf (systems_of m) result.preds result.count }
 {
-    let count = held(m.count);
     let mut preds = [0u8; MAX_SYSTEMS];
-    let mut i = 0;
-    while i < MAX_SYSTEMS {
-        preds[i] = m.systems[i].pred;
-        i += 1;
+    for (i, s) in m.systems.iter().enumerate() {
+        preds[i] = s.pred;
     }
+    let count = held(&m.systems, m.count).len();
     Links { preds, count }
 }
 
@@ -47,11 +48,9 @@ pub fn pred_of(preds: &[u8], place: usize) -> usize
     if place == 0 {
         return 0;
     }
-    let i = place - 1;
-    if i < preds.len() {
-        preds[i] as usize
-    } else {
-        0
+    match preds.get(place - 1) {
+        Some(pred) => *pred as usize,
+        None => 0,
     }
 }
 
@@ -60,13 +59,11 @@ fn ends(preds: &[u8], place: usize) -> bool
     ensures { result ≡ eqb (hop (linked_by preds.now) (length preds.now) place) 0 }
 {
     let mut at = place;
-    let mut left = preds.len();
-    while 0 < left {
+    for _ in preds {
         if at == 0 {
             return true;
         }
         at = pred_of(preds, at);
-        left -= 1;
     }
     at == 0
 }
@@ -75,17 +72,16 @@ fn ends(preds: &[u8], place: usize) -> bool
 pub fn no_ring(preds: &[u8]) -> bool
     ensures { result ≡ no_ring (linked_by preds.now) }
 {
-    let mut place = 0;
-    while place <= preds.len() {
+    for place in 0..=preds.len() {
         if !ends(preds, place) {
             return false;
         }
-        place += 1;
     }
     true
 }
 
-// What a walk that looks for a place gives: whether the place turned up, and how many systems were looked at, that one among them.
+// What a walk that looks for a place gives: whether the place turned up, and how many systems were looked at, that one among them. (No Option: the number
+// is told either way.)
 #[derive(Clone, Copy)]
 pub struct Search {
     pub found: bool,
@@ -98,26 +94,24 @@ pub fn look_down(preds: &[u8], k: usize, q: usize, before: usize, end: usize) ->
     ensures { search_of result ≡ after before (search (eqb k) (down (linked_by preds.now) (end - before) q)) }
 {
     let mut at = q;
-    let mut looked = before;
-    while looked < end {
-        looked += 1;
+    for looked in before..end {
         if at == k {
             return Search {
                 found: true,
-                looked,
+                looked: looked + 1,
             };
         }
         if at == 0 {
             return Search {
                 found: false,
-                looked,
+                looked: looked + 1,
             };
         }
         at = pred_of(preds, at);
     }
     Search {
         found: false,
-        looked,
+        looked: end.max(before),
     }
 }
 
@@ -125,10 +119,5 @@ pub fn look_down(preds: &[u8], k: usize, q: usize, before: usize, end: usize) ->
 pub fn on_chain(preds: &[u8], a: usize, q: usize) -> bool
     ensures { result ≡ on_chain (linked_by preds.now) a q }
 {
-    if q == 0 {
-        return false;
-    }
-    let below = pred_of(preds, q);
-    let search = look_down(preds, a, below, 0, preds.len() + 1);
-    search.found
+    q != 0 && look_down(preds, a, pred_of(preds, q), 0, preds.len() + 1).found
 }

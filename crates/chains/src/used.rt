@@ -34,7 +34,7 @@ pub fn at_place(k: usize) -> Sought
 // An enabled system and its chain, when so many were looked at before.
 fn look_along(preds: &[u8], k: usize, q: u8, before: usize) -> Search
     requires { (length preds.now ≤ max_systems) × (before ≤ 3 * (max_systems + 2)) }
-    ensures result_value { search_of result ≡ after before (search (eqb k) (path (linked_by preds.now) q)) }
+    ensures search_value { search_of result ≡ after before (search (eqb k) (path (linked_by preds.now) q)) }
     ensures looked_bound { result.looked ≤ before + (max_systems + 2) }
 {
     let end = before + preds.len() + 2;
@@ -44,7 +44,7 @@ fn look_along(preds: &[u8], k: usize, q: u8, before: usize) -> Search
 // The operating part, the work half before the tool half.
 fn look_operating(part: OperatingPart, preds: &[u8], k: usize) -> Search
     requires { length preds.now ≤ max_systems }
-    ensures result_value { search_of result ≡ search (eqb k) (operating_paths (linked_by preds.now) part) }
+    ensures search_value { search_of result ≡ search (eqb k) (operating_paths (linked_by preds.now) part) }
     ensures looked_bound { result.looked ≤ 2 * (max_systems + 2) }
 {
     match part {

@@ -1,12 +1,15 @@
 -- What is decided of a change, by its number, and what a ladder that was passed says of the places.
 use Prim.Native.Nat.{ℕ, ◌<◌, ◌≤◌}
 use mathlib.Core.Path.{◌≡◌, refl, sym, ap, ◌∙◌}
-use mathlib.Core.Bool.{true, false, ◌||◌}
+use mathlib.Core.Bool.{true, false, cond, ◌||◌}
+use mathlib.Core.Logic.{⊎_elim}
 use mathlib.Core.List.{List, [], ◌∷◌}
 use native.Mathlib.Omega.{arith}
-use borrow.Author.Tests.{eq-eqb, ne_eqb, leb-false}
+use borrow.Author.Tests.{eq-eqb, ne_eqb, eqb-false, leb-false}
 use lib.Dec.{eqb}
 use lib.ListN.{length, drop}
+use Rattle.std.specs.Prelude.{Result, Ok, Err, IsErrAnd}
+use Rattle.std.proofs.lemmas.Result.{err_from_is_err_and}
 use Rattle.model.specs.Limits.{max_systems}
 use Rattle.model.specs.declared.Kind.{Kind}
 use Rattle.model.specs.declared.Vec3.{Vec3}
@@ -25,19 +28,22 @@ use Rattle.model.specs.Effects.{with_volatile, with_error, put, fresh, changed, 
 use Rattle.model.specs.Reply.{reply}
 use Rattle.model.specs.Machine.{refused, answered, carried_out, judged}
 use Rattle.model.specs.Stored.{system_of, systems_of, memory_of, state_of, name_shaped}
-use Rattle.model.proofs.Basics.{or_false}
+use Rattle.model.proofs.Basics.{either, or_false}
 use Rattle.model.proofs.Ladder.First.{none_applies}
 use Rattle.model.proofs.Ladder.Refusing.{judged_refused, judged_taken}
 use Rattle.model.proofs.Memories.Named.{place_within, present_user}
 use Rattle.memory.specs.Put.{put_at}
 use Rattle.memory.proofs.ByName.{put_by_place}
+use Rattle.facts.specs.declared.refusals.Refusal.{Refusal}
+use Rattle.facts.specs.declared.refusals.Refusal.TheVariants.{Locked}
+use Rattle.facts.specs.Refusals.{number_of}
 use Rattle.commands.specs.Obeyed.{obeyed}
 use Rattle.commands.specs.declared.subject.Looked.{Looked}
 use Rattle.commands.specs.declared.changed.Deed.{Deed}
-use Rattle.commands.specs.declared.changed.Deed.TheVariants.{SetError, Put}
-use Rattle.commands.specs.declared.changed.Decision.{Decision}
-use Rattle.commands.specs.Done.{done, Fits, saving, removing, number_in, Decides}
+use Rattle.commands.specs.declared.changed.Deed.TheVariants.{Put}
+use Rattle.commands.specs.Done.{done, saving, settle, Fits, Decides}
 use Rattle.commands.specs.Subject.{Sees}
+use Rattle.commands.proofs.Settled.{not_zero}
 
 -- ---- the number decides
 
@@ -53,54 +59,50 @@ module _ (st : State) (c : Change) (n : ℕ) (e : n ≡ first (change_ladder st 
   unfolding carried_out next reply
   obeyed_accepted z = judged_so ∙ judged_taken st n (asks (change c)) b (eq-eqb n 0 z)
 
--- a decision of this number, that does this, and whose system can be stored
-abbrev Decided : ℕ → Deed → Decision → Type 0
-Decided n deed d = (d.number ≡ n) × (d.deed ≡ deed) × (name_shaped d.system ≡ true)
-
--- where it removes nothing, its number stands, whatever was saved
-number_stands : (n : ℕ) (deed : Deed) (d : Decision) (p : Memory) → Decided n deed d → removing deed ≡ false → number_in d p ≡ n
-number_stands n deed d p t r = rw (t.1, r) t.0
-
-module _ (s : StoredState) (c : Change) (n : ℕ) (e : n ≡ first (change_ladder (state_of s) (memory_of s.volatile) c)) where
+module _ (s : StoredState) (c : Change) where
   abbrev st : State
   st = state_of s
 
-  pub decides_refused : (d : Decision) → (n ≡ 0 → ⊥) → Decided n (SetError n) d → Decides s c d
-  unfolding done Fits saving removing
-  decides_refused d z p =
-      let stands = number_stands n (SetError n) d st.permanent p refl in
+  pub decides_refused : (why : Refusal) → number_of why ≡ first (change_ladder st (memory_of s.volatile) c) → Decides s c (Err why)
+  decides_refused why e =
       record {
-        outcome = λ b. (λ i. record { state = done (p.1 i) (system_of d.system) st; number = stands i; count = 0; buffer = b }) ∙ sym (obeyed_refused st c n e b z);
-        doable = record { fits = rw (p.1, Fits) tt; named = p.2 };
-        saves = rw (stands, p.1, ne_eqb n 0 z) refl;
+        outcome = λ b. sym (obeyed_refused st c (number_of why) e b (eqb-false (number_of why) 0 (not_zero why)));
+        doable = record { fits = tt };
+        saves = rw (not_zero why) refl;
       }
 
-  pub decides_accepted : (d : Decision) (deed : Deed) → n ≡ 0 → Decided 0 deed d → Fits deed s.volatile → done deed (system_of d.system) st ≡ changed st st.volatile c →
-      saving deed ≡ asks_to_save (asks (change c)) → removing deed ≡ false → Decides s c d
-  decides_accepted d deed z p f q t r =
-      let stands = number_stands 0 deed d st.permanent p r in
+  -- a refusal that a `?` hands on
+  pub decides_handed_on : (why : Refusal) (r : Result Deed Refusal) → IsErrAnd r (λ x. x ≡ why) → number_of why ≡ first (change_ladder st (memory_of s.volatile) c) → Decides s c r
+  decides_handed_on why r is e = let p = err_from_is_err_and r is in rw (p.1, p.2) (decides_refused why e)
+
+  -- a deed that is settled as it is
+  pub decides_accepted : (d : Deed) → 0 ≡ first (change_ladder st (memory_of s.volatile) c) → settle (memory_of s.permanent) d ≡ Ok d → Fits d s.volatile →
+      done d st ≡ changed st st.volatile c → saving d ≡ asks_to_save (asks (change c)) → Decides s c (Ok d)
+  decides_accepted d e stays f q t =
       record {
-        outcome = λ b. (λ i. record { state = done (p.1 i) (system_of d.system) st; number = stands i; count = 0; buffer = b }) ∙ ap (λ (t : State). answered t [] b) q ∙ sym (obeyed_accepted st c n e b z);
-        doable = record { fits = rw p.1 f; named = p.2 };
-        saves = rw (stands, p.1) t;
+        outcome = λ b. rw stays (ap (λ (next : State). answered next [] b) q ∙ sym (obeyed_accepted st c 0 e b refl));
+        doable = record { fits = f };
+        saves = rw (stays, t) refl;
       }
 
   -- x is put at the place k
-  pub decides_put : (d : Decision) (k : ℕ) (x : StoredSystem) → n ≡ 0 → d ≡ record { number = 0; deed = Put k; system = x } → name_shaped x ≡ true → (k ≤ max_systems) × (k ≡ 0 → s.volatile.count < max_systems) → with_volatile st (put_at st.volatile k (system_of x)) ≡ changed st st.volatile c →
-      asks_to_save (asks (change c)) ≡ false → Decides s c d
-  unfolding done Fits saving removing
-  decides_put d k x z p named f q t = rw p (decides_accepted (record { number = 0; deed = Put k; system = x }) (Put k) z (refl, refl, named) f q (sym t) refl)
+  pub decides_put : (k : ℕ) (x : StoredSystem) → 0 ≡ first (change_ladder st (memory_of s.volatile) c) → name_shaped x ≡ true → (k ≤ max_systems) × (k ≡ 0 → s.volatile.count < max_systems) →
+      with_volatile st (put_at st.volatile k (system_of x)) ≡ changed st st.volatile c → asks_to_save (asks (change c)) ≡ false → Decides s c (Ok (Put k x))
+  unfolding done Fits saving settle
+  decides_put k x z named f q t = decides_accepted (Put k x) z refl (f.0, f.1, named) q (sym t)
 
 -- a change whose only number is 9, for the level alone: RPA and DPA
-module _ (s : StoredState) (c : Change) (only : change_ladder (state_of s) (memory_of s.volatile) c ≡ (9, eqb s.level 0) ∷ []) (d : Decision) where
-  pub level_locked : s.level ≡ 0 → Decided 9 (SetError 9) d → Decides s c d
+module _ (s : StoredState) (c : Change) (only : change_ladder (state_of s) (memory_of s.volatile) c ≡ (9, eqb s.level 0) ∷ []) where
+  pub decides_at_level_1 : (d : Deed) → settle (memory_of s.permanent) d ≡ Ok d → Fits d s.volatile →
+      done d (state_of s) ≡ changed (state_of s) (memory_of s.volatile) c → saving d ≡ asks_to_save (asks (change c)) → Decides s c (cond (eqb s.level 0) (Err Locked) (Ok d))
   unfolding first
-  level_locked e p = decides_refused s c 9 (rw (only, eq-eqb s.level 0 e, first) refl) d (λ z. omega arith) p
+  decides_at_level_1 d stays f q t = ⊎_elim shut free (either (eqb s.level 0))
+    where
+      shut : eqb s.level 0 ≡ true → Decides s c (cond (eqb s.level 0) (Err Locked) (Ok d))
+      shut e = rw e (decides_refused s c Locked (rw (only, e, first) refl))
 
-  pub level_open : (s.level ≡ 0 → ⊥) → (deed : Deed) → Decided 0 deed d → Fits deed s.volatile →
-      done deed (system_of d.system) (state_of s) ≡ changed (state_of s) (memory_of s.volatile) c → saving deed ≡ asks_to_save (asks (change c)) → removing deed ≡ false → Decides s c d
-  unfolding first
-  level_open e deed p f q t r = decides_accepted s c 0 (rw (only, ne_eqb s.level 0 e, first) refl) d deed refl p f q t r
+      free : eqb s.level 0 ≡ false → Decides s c (cond (eqb s.level 0) (Err Locked) (Ok d))
+      free e = rw e (decides_accepted s c d (rw (only, e, first) refl) stays f q t)
 
 -- ---- the places of a change that is accepted
 

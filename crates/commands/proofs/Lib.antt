@@ -1,4 +1,5 @@
 pub mod Asked
+pub mod Settled
 pub mod Carried
 pub mod Deeds
 pub mod Removal

@@ -7,6 +7,7 @@ use mathlib.Core.Logic.{⊎_elim}
 use native.Mathlib.Omega.{arith}
 use lib.Dec.{eqb}
 use lib.ListN.{drop}
+use Rattle.std.specs.Prelude.{Result, Ok}
 use Rattle.model.specs.declared.System.{System as StoredSystem}
 use Rattle.model.specs.declared.State.{State as StoredState}
 use Rattle.model.specs.Lists.{all, any, kept}
@@ -19,13 +20,14 @@ use Rattle.model.specs.Claims.{applies, in_order}
 use Rattle.model.specs.Checklist.{asks_to_save}
 use Rattle.model.specs.Effects.{with_volatile, removed_at, changed}
 use Rattle.model.specs.Machine.{answered}
-use Rattle.model.specs.Stored.{system_of, systems_of, memory_of, state_of, name_shaped}
+use Rattle.model.specs.Stored.{system_of, systems_of, memory_of, state_of}
 use Rattle.model.proofs.Basics.{either, or_false, and_false}
 use Rattle.model.proofs.Ladder.First.{none_applies}
 use Rattle.model.proofs.Memories.Named.{present_user, user_place, place_within}
+use Rattle.facts.specs.declared.refusals.Refusal.{Refusal}
+use Rattle.commands.specs.declared.changed.Deed.{Deed}
 use Rattle.commands.specs.declared.changed.Deed.TheVariants.{Remove}
-use Rattle.commands.specs.declared.changed.Decision.{Decision}
-use Rattle.commands.specs.Done.{done, Fits, saving, removing, number_in, outcome_of, Decides}
+use Rattle.commands.specs.Done.{done, saving, settle, Fits, number_in, outcome_of, Decides}
 use Rattle.commands.specs.Obeyed.{obeyed}
 use Rattle.commands.specs.Subject.{without_twenty}
 use Rattle.commands.proofs.Carried.{obeyed_refused, obeyed_accepted}
@@ -81,11 +83,11 @@ module _ (s : StoredState) (a : List ℕ) (z : first (without_twenty (change_lad
   abbrev st' : State
   st' = state_of s
 
-  abbrev going : Decision
-  going = record { number = 0; deed = Remove k; system = x }
+  abbrev going : Result Deed Refusal
+  going = Ok (Remove k x)
 
   removal_outcome : (b : List ℕ) → outcome_of going st' 0 b ≡ obeyed st' (asks (change (remove a))) b
-  unfolding done removing changed
+  unfolding done settle changed
   removal_outcome b = ⊎_elim held free (either (name_in_use st'.permanent a))
     where
       held : name_in_use st'.permanent a ≡ true → outcome_of going st' 0 b ≡ obeyed st' (asks (change (remove a))) b
@@ -96,12 +98,12 @@ module _ (s : StoredState) (a : List ℕ) (z : first (without_twenty (change_lad
           rw (name, u) (ap (λ (q : ℕ). answered (with_volatile st' (removed_at st'.volatile q)) [] b) place
           ∙ sym (obeyed_accepted st' (remove a) 0 (sym (rw u refl) ∙ left_to_permanent st' a z) b refl))
 
-  pub decides_removal : name_shaped x ≡ true → Decides s (remove a) going
+  pub decides_removal : Decides s (remove a) going
   unfolding Fits saving asks_to_save
-  decides_removal shape =
+  decides_removal =
       let user = remove_user st' a z in
       record {
         outcome = removal_outcome;
-        doable = record { fits = rw place (user_place (memory_of s.volatile) a user, place_within (systems_of s.volatile) a); named = shape };
+        doable = record { fits = rw place (user_place (memory_of s.volatile) a user, place_within (systems_of s.volatile) a) };
         saves = sym (and_false (eqb (number_in going (memory_of s.permanent)) 0));
       }

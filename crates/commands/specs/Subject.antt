@@ -1,5 +1,5 @@
 -- What one look at a memory tells of two names.
-use Rattle.std.specs.Prelude.{◌≡◌, length}
+use Rattle.std.specs.Prelude.{◌≡◌, length, is_some}
 use Rattle.model.specs.Base.{ℕ, List, true, not, eqb}
 use Rattle.model.specs.declared.Position.{Position}
 use Rattle.model.specs.declared.Memory.{Memory as StoredMemory}
@@ -22,7 +22,7 @@ meant_of x = record { place = x.place; group = x.group; kind = x.kind }
 -- all that is stored of it is right of the name n in the memory m
 pub record Tells (m : Memory) (n : List ℕ) (x : Subject) : Type 0 where
   pub found_is : found_told m.systems x.found ≡ or_number 7 (find m n)
-  pub absent_is : x.absent ≡ absent m n
+  pub absent_is : not (is_some x.found) ≡ absent m n
   pub reserved_is : x.reserved ≡ reserved n
   pub meant_is : meant_of x ≡ meant m n
 

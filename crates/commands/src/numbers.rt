@@ -1,14 +1,13 @@
-// One ladder for every change of the systems: which numbers apply, and the first of them.
-ghost use Rattle.std.specs.Prelude.{◌≡◌, List, ◌∷◌};
-ghost use Rattle.model.specs.Refusals.{Rung, first};
+// One ladder for every change of the systems: which conditions hold, and the refusal of the first of them.
+ghost use Rattle.std.specs.Prelude.{◌≡◌};
+ghost use Rattle.model.specs.Refusals.{first};
+ghost use Rattle.facts.specs.Refusals.{outcome};
 ghost use Rattle.commands.specs.Rungs.{rungs_of};
 
-use facts::numbers::{
-    ABSENT, ACCEPTED, ASLANT, BEYOND, FULL, IN_USE, LOCKED, OTHER_TYPE, RESERVED, RING,
-};
+use facts::refusals::Refusal;
 
 // Which conditions hold; the order in which they are tried is the definitions' `precedence`. A number that a change does not know has a condition that
-// is false. 20 is none of these: `changed::settled` gives it, last.
+// is false. 20 is none of these: `changed::settled` gives it, last. (A field for each, and no list of pairs: a judge then names those that it knows.)
 #[derive(Clone, Copy)]
 pub struct Rungs {
     pub beyond: bool,
@@ -22,27 +21,45 @@ pub struct Rungs {
     pub full: bool,
 }
 
-// The number where it applies, else the first of the later ones that does.
-fn rung(number: u8, applies: bool, later: u8) -> u8
-    ensures { (rs : List Rung) → later ≡ first rs → result ≡ first ((number, applies) ∷ rs) }
-{
-    if applies {
-        return number;
-    }
-    later
+impl Rungs {
+    // No condition holds.
+    pub const CLEAR: Rungs = Rungs {
+        beyond: false,
+        absent: false,
+        reserved: false,
+        locked: false,
+        other: false,
+        used: false,
+        ring: false,
+        aslant: false,
+        full: false,
+    };
 }
 
-// From the last rung to the first.
-pub fn first_number(r: Rungs) -> u8
-    ensures { result ≡ first (rungs_of r) }
+// From the first rung to the last.
+#[tactic(auto, unfolding(model::specs::Refusals::first))]
+pub fn first_number(r: Rungs) -> Result<(), Refusal>
+    ensures { outcome result ≡ first (rungs_of r) }
 {
-    let n = rung(FULL, r.full, ACCEPTED);
-    let n = rung(ASLANT, r.aslant, n);
-    let n = rung(RING, r.ring, n);
-    let n = rung(IN_USE, r.used, n);
-    let n = rung(OTHER_TYPE, r.other, n);
-    let n = rung(LOCKED, r.locked, n);
-    let n = rung(RESERVED, r.reserved, n);
-    let n = rung(ABSENT, r.absent, n);
-    rung(BEYOND, r.beyond, n)
+    if r.beyond {
+        Err(Refusal::Beyond)
+    } else if r.absent {
+        Err(Refusal::Absent)
+    } else if r.reserved {
+        Err(Refusal::Reserved)
+    } else if r.locked {
+        Err(Refusal::Locked)
+    } else if r.other {
+        Err(Refusal::OtherType)
+    } else if r.used {
+        Err(Refusal::InUse)
+    } else if r.ring {
+        Err(Refusal::Ring)
+    } else if r.aslant {
+        Err(Refusal::Aslant)
+    } else if r.full {
+        Err(Refusal::Full)
+    } else {
+        Ok(())
+    }
 }

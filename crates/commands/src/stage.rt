@@ -17,16 +17,11 @@ use pose::{Pose, sum};
 pub fn spot(m: Memory, links: Links, p: Position) -> Pose
     requires fine_memory { FineMemory m }
     requires links_of { LinksOf (systems_of m) links.preds links.count }
-    requires p_value { position_fine p ≡ true }
+    requires p_fine { position_fine p ≡ true }
     ensures { pose_of result ≡ spot (memory_of m) p }
 {
-    let e = m.enabled;
-    let operating = e.operating;
-    let r = walk_from(m, links, operating_place(operating));
-    let near = r.at;
-    let rot = r.rot;
-    let offset = p.offset;
-    let step = turn(rot, offset);
-    let at = sum(near, step);
-    Pose { at, rot }
+    let r = walk_from(m, links, operating_place(m.enabled.operating));
+    let step = turn(r.rot, p.offset);
+    let at = sum(r.at, step);
+    Pose { at, rot: r.rot }
 }

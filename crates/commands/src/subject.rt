@@ -1,6 +1,5 @@
 // What the ladder asks of the names and the links, from one look at the volatile memory: later tests do not look at it again.
-ghost use Rattle.std.specs.Prelude.{◌≡◌, not, true, List};
-ghost use Rattle.model.specs.Lists.{there?};
+ghost use Rattle.std.specs.Prelude.{◌≡◌, true, List};
 ghost use Rattle.model.specs.Memory.{System as SystemOf, Memory as MemoryOf, ref_or, system_at, place_named};
 ghost use Rattle.model.specs.Stored.{bytes_of, memory_shaped};
 ghost use Rattle.memory.specs.Found.{found_ref, found_place};
@@ -12,11 +11,11 @@ use memory::find::{Found, found_at, places_named};
 use memory::names::reserved_name;
 use model::{Enabled, Group, Kind, Memory, Name, System};
 
-// What a name means, whether no system has it, whether it is reserved, and the place, group and type of its system.
+// What a name means, if any system has it; whether it is reserved; and the place, group and type of its system. (Place 0 is no user system, as in the
+// definitions' Meant.)
 #[derive(Clone, Copy)]
 pub struct Subject {
-    pub found: Found,
-    pub absent: bool,
+    pub found: Option<Found>,
     pub reserved: bool,
     pub place: u8,
     pub group: Group,
@@ -33,24 +32,15 @@ pub struct Looked {
     pub enabled: Enabled,
 }
 
-fn is_absent(f: Found) -> bool
-    ensures { (l : List SystemOf) → result ≡ not (there? (found_ref l f)) }
-{
-    match f {
-        Found::User(_) => false,
-        Found::Fixed(_) => false,
-        Found::Absent => true,
-    }
-}
-
 // The group, where the type at a user system's place is known. Nothing found counts as ZERO, as in the definitions.
-fn group_found(f: Found, kind: Kind) -> Group
+#[tactic(auto, unfolding(memory::specs::Found::found_told, memory::specs::Found::found_place, model::specs::Memory::ref_or))]
+fn group_found(f: Option<Found>, kind: Kind) -> Group
     ensures { (l : List SystemOf) → kind ≡ (system_at l (found_place f)).kind → result ≡ (ref_or (found_ref l f)).group }
 {
     match f {
-        Found::User(_) => group_of(kind),
-        Found::Fixed(group) => group,
-        Found::Absent => Group::Operating,
+        Some(Found::User(_)) => group_of(kind),
+        Some(Found::Fixed(group)) => group,
+        None => Group::Operating,
     }
 }
 
@@ -62,7 +52,6 @@ fn about(n: Name, place: u8, kind: Kind) -> Subject
     let group = group_found(found, kind);
     Subject {
         found,
-        absent: is_absent(found),
         reserved: reserved_name(n),
         place,
         group,
@@ -75,19 +64,13 @@ pub fn look(m: Memory, a: Name, b: Name) -> Looked
     ensures { Sees m (bytes_of a) (bytes_of b) result }
 {
     let places = places_named(m, a, b);
-    let source = places.one;
-    let kind = source.kind;
-    let first = about(a, places.first, kind);
-    let other = places.other;
-    let other_kind = other.kind;
-    let second = about(b, places.second, other_kind);
-    let links = places.links;
-    let enabled = m.enabled;
+    let first = about(a, places.first, places.one.kind);
+    let second = about(b, places.second, places.other.kind);
     Looked {
         first,
         second,
-        source,
-        links,
-        enabled,
+        source: places.one,
+        links: places.links,
+        enabled: m.enabled,
     }
 }

@@ -29,7 +29,7 @@ counted_nothing s = ap (λ (x : Fed). counted_all (tally_of s.tally) x.output) (
 -- a session t that holds what s gives for a block up to a place, and has counted its outcomes; and what was fed of the rest
 module _ (s : Session) (block : List ℕ) (t : Session) (at : ℕ) (held : held_of t ≡ (given s (take at block)).held)
     (tally : tally_of t.tally ≡ counted_all (tally_of s.tally) (outcomes_given s (take at block))) (before after : List ℕ) (f : StoredFed)
-    (k : Manner) (feeds : Feeds k t.state t.tally (held_of t).line (rest block at) before after f) (end : ℕ) (e : end ≡ at + f.used) where
+    (k : Manner) (feeds : Feeds k t (rest block at) before after f) (end : ℕ) (e : end ≡ at + f.used) where
   abbrev part : List ℕ
   part = take (end - at) (drop at block)
 

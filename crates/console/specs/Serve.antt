@@ -1,11 +1,11 @@
 -- What ksrun does with the bytes that it reads, block by block.
-use Rattle.std.specs.Prelude.{ℕ, ◌≡◌, List, true}
+use Rattle.std.specs.Prelude.{ℕ, ◌≡◌, List}
+use Rattle.model.specs.Stored.{FineState}
 use Rattle.model.specs.Tally.{counted_all}
 use Rattle.tally.specs.Counts.{tally_of}
 use Rattle.session.specs.Feed.{Fed, fed, fed_outcomes}
-use Rattle.session.specs.Blocks.{held_of, Between}
+use Rattle.session.specs.Blocks.{held_of}
 use Rattle.session.specs.declared.feed.Session.{Session}
-use Rattle.console.specs.declared.Served.{Served}
 
 -- [ksrun] what a session gives for the next bytes of its input: what it prints, and what it holds then
 abbrev pub given : Session → List ℕ → Fed
@@ -15,8 +15,8 @@ given s part = fed (held_of s).state (held_of s).line part
 abbrev pub outcomes_given : Session → List ℕ → List ℕ
 outcomes_given s part = (fed_outcomes (held_of s).state (held_of s).line part).output
 
--- a block was served: if all could be written, the session holds what it gives for the whole block, and has counted its outcomes
-pub record Serves (s : Session) (block : List ℕ) (r : Served) : Type 0 where
-  pub held : r.ok ≡ true → held_of r.session ≡ (given s block).held
-  pub tally : r.ok ≡ true → tally_of r.session.tally ≡ counted_all (tally_of s.tally) (outcomes_given s block)
-  pub between : Between r.session
+-- a block was served and all could be written: the session r holds what s gives for the whole block, and has counted its outcomes
+pub record Serves (s : Session) (block : List ℕ) (r : Session) : Type 0 where
+  pub held : held_of r ≡ (given s block).held
+  pub tally : tally_of r.tally ≡ counted_all (tally_of s.tally) (outcomes_given s block)
+  pub fine : FineState r.state

@@ -6,13 +6,18 @@ use mathlib.Core.Bool.{true, false}
 use borrow.Author.Tests.{eq-eqb}
 use Rattle.model.specs.Memory.{State}
 use Rattle.model.specs.WellFormed.{well_formed}
-use Rattle.model.specs.Request.{Query, reading, unknown, malformed, beyond, asks, list, last_error}
+use Rattle.model.specs.Request.{Query, Reading, reading, asks, list, last_error}
 use Rattle.model.specs.Refusals.{first, short, unreadable, reading_ladder, request_ladder, query_ladder, ladder, refusal}
 use Rattle.model.specs.Effects.{with_error, next}
 use Rattle.model.specs.Reply.{listed, reply, decimal}
 use Rattle.model.specs.Ascii.{ascii}
 use Rattle.model.specs.Machine.{stepped, judged, carried_out, answered, refused}
 use Rattle.model.proofs.Ladder.Refusing.{step_fine, judged_taken}
+use Rattle.std.specs.Prelude.{Err}
+use Rattle.facts.specs.declared.refusals.Refusal.{Refusal}
+use Rattle.facts.specs.Refusals.{number_of}
+use Rattle.request.specs.Asked.{Says}
+use Rattle.request.proofs.Says.{says_refused}
 use Rattle.commands.specs.Obeyed.{obeyed}
 
 module _ (st : State) (l b : List ℕ) (fine : well_formed st ≡ true) where
@@ -46,17 +51,10 @@ module _ (st : State) (l b : List ℕ) (fine : well_formed st ≡ true) where
 -- ---- what each reading gives
 
 module _ (st : State) (b : List ℕ) where
-  pub obeyed_unknown : obeyed st unknown b ≡ refused (with_error st 4) 4 b
+  -- [Errors 4 to 6]
+  pub obeyed_refused : {why : Refusal} {r : Reading} → Says (Err why) r → obeyed st r b ≡ refused (with_error st (number_of why)) (number_of why) b
   unfolding obeyed judged first reading_ladder
-  obeyed_unknown = refl
-
-  pub obeyed_malformed : obeyed st malformed b ≡ refused (with_error st 5) 5 b
-  unfolding obeyed judged first reading_ladder
-  obeyed_malformed = refl
-
-  pub obeyed_beyond : obeyed st beyond b ≡ refused (with_error st 6) 6 b
-  unfolding obeyed judged first reading_ladder
-  obeyed_beyond = refl
+  obeyed_refused s = says_refused (λ (n : ℕ) (r : Reading). obeyed st r b ≡ refused (with_error st n) n b) refl refl refl s
 
   pub obeyed_error : obeyed st (asks last_error) b ≡ answered (with_error st 0) (decimal st.error ++ ascii "\n") b
   unfolding obeyed judged first reading_ladder request_ladder carried_out next reply

@@ -16,7 +16,8 @@ use Rattle.model.proofs.Ladder.Refusing.{step_ill}
 use Rattle.memory.proofs.Shape.{shape_parts}
 use Rattle.model.proofs.Ladder.Exact.{other_numbers_exact}
 use Rattle.engine.specs.declared.answer.Stepped.{Stepped}
-use Rattle.engine.specs.Answers.{answered_of}
+use Rattle.facts.specs.Refusals.{outcome}
+use Rattle.engine.specs.Answers.{written_by, answered_of}
 
 pub fine_of : (s : StoredState) → shaped s && well_formed (state_of s) ≡ true → FineState s
 fine_of s e = let p = and_split (shaped s) (well_formed (state_of s)) e in record { shape = p.0; formed = p.1 }
@@ -68,5 +69,5 @@ module _ (s : StoredState) (ill : shaped s && well_formed (state_of s) ≡ false
 
 -- an answer whose state has shape
 pub answer_holds : (r : Stepped) (b : List ℕ) → shaped r.state ≡ true →
-    answered_of r b ≡ of_outcome (record { state = state_of r.state; number = r.number; count = r.length; buffer = b })
+    answered_of r b ≡ of_outcome (record { state = state_of r.state; number = outcome r.outcome; count = written_by r.outcome; buffer = b })
 answer_holds r b e = rw (view_holds r.state e) refl

@@ -1,39 +1,39 @@
-// What a line gives: refused, changed or replied to.
-ghost use Rattle.std.specs.Prelude.{◌≡◌, true};
-ghost use Rattle.model.specs.Stored.{name_shaped};
+// What a line gives: what it does and how long its reply is, or why it is refused.
+ghost use Rattle.std.specs.Prelude.{◌≡◌};
+ghost use Rattle.engine.specs.Taken.{step_of};
 
-use commands::changed::{Decision, Deed, accepted};
+use commands::changed::Deed;
+use facts::refusals::Refusal;
 use model::State;
 
-// What is decided, and how many bytes of the lent buffer were written.
+// What an accepted line does, and how many bytes of the lent buffer were written.
 #[derive(Clone, Copy)]
 pub struct Step {
-    pub decision: Decision,
+    pub deed: Deed,
     pub length: usize,
 }
 
-// The next state, the number (0: accepted), and how many bytes of the lent buffer were written.
+// The next state, and how many bytes of the lent buffer were written, or why none were.
 #[derive(Clone, Copy)]
 pub struct Stepped {
     pub state: State,
-    pub number: u8,
-    pub length: usize,
+    pub outcome: Result<usize, Refusal>,
 }
 
-// A refusal or a change has no reply.
-pub fn silent(decision: Decision) -> Step
-    ensures { result ≡ record { decision = decision; length = 0 } }
+// A change has no reply.
+pub fn silent(decided: Result<Deed, Refusal>) -> Result<Step, Refusal>
+    ensures { result ≡ step_of 0 decided }
 {
-    Step {
-        decision,
-        length: 0,
-    }
+    let deed = decided?;
+    Ok(Step { deed, length: 0 })
 }
 
 // A reply of so many bytes; the state stays.
 pub fn replied(length: usize) -> Step
-    ensures { (result.decision.number ≡ 0) × (result.decision.deed ≡ Deed.Keep) × (name_shaped result.decision.system ≡ true) × (result.length ≡ length) }
+    ensures { result ≡ record { deed = Deed.Keep; length = length } }
 {
-    let decision = accepted(Deed::Keep);
-    Step { decision, length }
+    Step {
+        deed: Deed::Keep,
+        length,
+    }
 }

@@ -22,26 +22,16 @@ pub fn group_of(k: Kind) -> Group
     ensures { result ≡ (of_kind k).group }
 {
     match k {
-        Kind::Ksd => Group::Operating,
-        Kind::Kst => Group::Operating,
-        Kind::Ksw => Group::Operating,
+        Kind::Ksd | Kind::Kst | Kind::Ksw | Kind::Ksf => Group::Operating,
         Kind::Ksb => Group::Orientational,
         Kind::Kld => Group::Levelling,
-        Kind::Ksf => Group::Operating,
     }
 }
 
 pub fn turns_only(k: Kind) -> bool
     ensures { result ≡ (of_kind k).turns_only }
 {
-    match k {
-        Kind::Ksd => false,
-        Kind::Kst => false,
-        Kind::Ksw => false,
-        Kind::Ksb => true,
-        Kind::Kld => false,
-        Kind::Ksf => false,
-    }
+    matches!(k, Kind::Ksb)
 }
 
 // The first axis that its command has: X is 0, U is 3.

@@ -4,7 +4,7 @@
 #![tactic(auto)]
 
 pub mod limits; // limits.rt: how many, how long, how far
-pub mod numbers; // numbers.rt: the refusal numbers, each with its sentence
+pub mod refusals; // refusals.rt: why a call or a line is refused, and the number of each reason
 pub mod kinds; // kinds.rt: what is said of a type
 pub mod groups; // groups.rt: what is said of a group
 pub mod halves; // halves.rt: the place of the enabled operating system, and the halves of a pair

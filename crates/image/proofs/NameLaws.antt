@@ -1,23 +1,28 @@
--- What the name of a length at a place is.
-use Prim.Native.Nat.{ℕ, ◌+◌, ◌-◌, ◌≤◌, ◌<◌}
+-- What the name of a length at the front of bytes is.
+use Prim.Native.Nat.{ℕ, ◌≤◌, ◌<◌}
 use mathlib.Core.Path.{◌≡◌}
-use mathlib.Core.List.{List}
+use mathlib.Core.List.{List, ◌++◌}
 use mathlib.Core.Option.{none, some}
-use lib.ListN.{length, take, drop, length-drop}
-use lib.Seq.{drop-drop}
+use lib.ListN.{length, take, drop}
+use lib.Seq.{length-take-le, take-append_seam}
 use borrow.Author.Tests.{le-leb, lt-leb}
 use Rattle.model.specs.Limits.{name_limit}
 use Rattle.model.specs.Image.{fail, read_bytes, read_name}
 
-module _ (bs : List ℕ) (at n : ℕ) where
-  pub name_long : name_limit < n → read_name n (drop at bs) ≡ none
+module _ (bs : List ℕ) (n : ℕ) where
+  pub name_long : name_limit < n → read_name n bs ≡ none
   unfolding read_name fail
   name_long h = rw (lt-leb n name_limit h)
 
-  pub name_beyond : n ≤ name_limit → length bs - at < n → read_name n (drop at bs) ≡ none
-  unfolding read_name read_bytes
-  name_beyond h g = rw (le-leb n name_limit h, length-drop at bs, lt-leb n (length bs - at) g)
+  module _ (h : n ≤ name_limit) where
+    pub name_beyond : length bs < n → read_name n bs ≡ none
+    unfolding read_name read_bytes
+    name_beyond g = rw (le-leb n name_limit h, lt-leb n (length bs) g)
 
-  pub name_there : n ≤ name_limit → n ≤ length bs - at → read_name n (drop at bs) ≡ some (take n (drop at bs), drop (at + n) bs)
-  unfolding read_name read_bytes
-  name_there h g = rw (le-leb n name_limit h, length-drop at bs, le-leb n (length bs - at) g, drop-drop n at bs)
+    -- the free bytes after the name do not matter
+    pub name_there : (free : List ℕ) → n ≤ length bs → read_name n bs ≡ some (take n (take n bs ++ free), drop n bs)
+    unfolding read_name read_bytes
+    name_there free g =
+        let l : length (take n bs) ≡ n = length-take-le n bs g in
+        let t : take n (take n bs ++ free) ≡ take n bs = rw l at (take-append_seam (take n bs) free) in
+        rw (le-leb n name_limit h, le-leb n (length bs) g, t)

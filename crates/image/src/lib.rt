@@ -7,10 +7,10 @@ ghost use Rattle.model.specs.WellFormed.{memory_fine};
 ghost use Rattle.model.specs.Image.{image};
 ghost use Rattle.model.specs.Machine.{written};
 ghost use Rattle.model.specs.Stored.{memory_of, memory_shaped};
-ghost use Rattle.image.specs.Accepted.{Answers, Refuses};
+ghost use Rattle.image.specs.Accepted.{Answers};
 
 use crate::memories::{read_memory, write_memory};
-use memory::factory::factory_memory;
+use facts::refusals::Refusal;
 use memory::fine::memory_fine;
 use model::Memory;
 
@@ -21,13 +21,6 @@ mod names;
 mod numbers;
 mod systems;
 
-// The memory whose image the bytes are; the factory memory if they are the image of none.
-#[derive(Clone, Copy)]
-pub struct ImageRead {
-    pub ok: bool,
-    pub memory: Memory,
-}
-
 // Writes the image from the start of the buffer, in one pass; its length.
 pub fn write(m: Memory, out: &mut [u8]) -> usize
     requires { (memory_shaped m ≡ true) × (memory_fine (memory_of m) ≡ true) × (buffer_limit ≤ length out.old) }
@@ -36,27 +29,17 @@ pub fn write(m: Memory, out: &mut [u8]) -> usize
     write_memory(m, out)
 }
 
-fn refused() -> ImageRead
-    ensures { Refuses result }
-{
-    let memory = factory_memory();
-    ImageRead { ok: false, memory }
-}
-
-// Any bytes: they are read once, in order, and then the memory is judged.
-pub fn read(bytes: &[u8]) -> ImageRead
+// The memory whose image the bytes are. Any bytes: they are read once, in order, and then the memory is judged.
+pub fn read(bytes: &[u8]) -> Result<Memory, Refusal>
     ensures { Answers bytes.now result }
 {
-    let r = read_memory(bytes);
-    if !r.ok {
-        return refused();
+    let mut left = bytes;
+    let memory = read_memory(&mut left).ok_or(Refusal::NoImage)?;
+    if !left.is_empty() {
+        return Err(Refusal::NoImage);
     }
-    if r.next < bytes.len() {
-        return refused();
-    }
-    let memory = r.memory;
     if !memory_fine(memory) {
-        return refused();
+        return Err(Refusal::NoImage);
     }
-    ImageRead { ok: true, memory }
+    Ok(memory)
 }

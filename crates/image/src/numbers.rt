@@ -1,95 +1,44 @@
 // Whole numbers, seven bits to a byte, low ones first, and 128 more where another byte follows.
-ghost use Rattle.std.specs.Prelude.{◌≡◌, ◌+◌, ◌≤◌, length, take, drop};
+ghost use Rattle.std.specs.Prelude.{◌≡◌, ◌+◌, ◌≤◌, length, IfSome, EachIndex, slice_index};
 ghost use Rattle.model.specs.Told.{or_number};
 ghost use Rattle.model.specs.Image.{whole, numbers, up_to, several};
 ghost use Rattle.print.specs.Over.{Wrote};
-ghost use Rattle.image.specs.Views.{number_told, number_up_to, numbers_told};
+ghost use Rattle.image.specs.Views.{read_told};
 
-use signed::wide;
-
-// A number, and the place after it; or none in its shortest form that is not above the most.
-#[derive(Clone, Copy)]
-pub enum Number {
-    Read(u64, usize),
-    Refused,
-}
-
-fn up_to(value: u64, next: usize, most: u64) -> Number
-    ensures { result ≡ number_up_to value next most }
+// Takes a number off the front of the bytes, in its shortest form, if it is not above the most. What is left above a group is at most the 128th part, so
+// the groups end however many bytes there are.
+pub fn read_number(bytes: &mut &[u8], most: u64) -> Option<u64>
+    ensures told { read_told (λ n. n) result bytes.new.now ≡ or_number 14 (up_to most bytes.old.now) }
+    ensures within { IfSome result (λ n. n ≤ most) }
 {
-    if most < value {
-        return Number::Refused;
-    }
-    Number::Read(value, next)
-}
-
-// The number at a place. What is left above a group is at most the 128th part, so the groups end however many bytes there are.
-pub fn read_number(bytes: &[u8], at: usize, most: u64) -> Number
-    ensures { number_told bytes.now result ≡ or_number 14 (up_to most (drop at bytes.now)) }
-{
-    if bytes.len() <= at {
-        return Number::Refused;
-    }
-    let group = wide(bytes[at]);
+    let group = u64::from(*bytes.split_off_first()?);
     if group < 128 {
-        return up_to(group, at + 1, most);
+        return (group <= most).then_some(group);
     }
     if most < 128 {
-        return Number::Refused;
+        return None;
     }
-    let rest = read_number(bytes, at + 1, most / 128);
-    match rest {
-        Number::Refused => Number::Refused,
-        Number::Read(high, next) => {
-            if high == 0 {
-                return Number::Refused;
-            }
-            up_to(group - 128 + 128 * high, next, most)
-        }
+    let high = read_number(bytes, most / 128)?;
+    if high == 0 {
+        return None;
     }
-}
-
-// The first values that were read, and the place after them.
-#[derive(Clone, Copy)]
-pub struct Numbers {
-    pub ok: bool,
-    pub next: usize,
-    pub values: [u64; 4],
+    let number = group - 128 + 128 * high;
+    (number <= most).then_some(number)
 }
 
 // So many numbers, one after the other, each not above the most.
-pub fn read_numbers(bytes: &[u8], at: usize, count: usize, most: u64) -> Numbers
-    requires { count ≤ 4 }
-    ensures { numbers_told bytes.now count result ≡ or_number 14 (several count most (drop at bytes.now)) }
+pub fn read_numbers<const N: usize>(bytes: &mut &[u8], most: u64) -> Option<[u64; N]>
+    ensures told { read_told (λ l. l) result bytes.new.now ≡ or_number 14 (several N most bytes.old.now) }
+    ensures within { IfSome result (λ l. EachIndex l (λ k. slice_index l k ≤ most)) }
 {
-    let mut values = [0u64; 4];
-    let mut next = at;
-    let mut i = 0;
-    while i < count {
-        let n = read_number(bytes, next, most);
-        match n {
-            Number::Refused => {
-                return Numbers {
-                    ok: false,
-                    next,
-                    values,
-                };
-            }
-            Number::Read(value, after) => {
-                values[i] = value;
-                next = after;
-            }
-        }
-        i += 1;
+    let mut values = [0; N];
+    for value in &mut values {
+        *value = read_number(bytes, most)?;
     }
-    Numbers {
-        ok: true,
-        next,
-        values,
-    }
+    Some(values)
 }
 
-// Writes a number from out[at] on; the place after it.
+// Writes a number from out[at] on, as print's writers do; the place after it. (What is left of the number ends the loop; the place only follows.)
 pub fn write_number(out: &mut [u8], at: usize, n: u64) -> usize
     requires { at + length (whole n) ≤ length out.old }
     ensures { Wrote (whole n) out.old at out.new result }
@@ -105,16 +54,14 @@ pub fn write_number(out: &mut [u8], at: usize, n: u64) -> usize
     i + 1
 }
 
-// Writes the first values, one after the other.
-pub fn write_numbers(out: &mut [u8], at: usize, values: [u64; 4], count: usize) -> usize
-    requires { (count ≤ 4) × (at + length (numbers (take count values)) ≤ length out.old) }
-    ensures { Wrote (numbers (take count values)) out.old at out.new result }
+// Writes numbers, one after the other.
+pub fn write_numbers(out: &mut [u8], at: usize, values: &[u64]) -> usize
+    requires { at + length (numbers values.now) ≤ length out.old }
+    ensures { Wrote (numbers values.now) out.old at out.new result }
 {
     let mut next = at;
-    let mut i = 0;
-    while i < count {
-        next = write_number(out, next, values[i]);
-        i += 1;
+    for value in values {
+        next = write_number(out, next, *value);
     }
     next
 }

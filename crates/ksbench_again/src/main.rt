@@ -5,48 +5,32 @@
 use bench::serve::{serve, serve_last};
 use bench::start::start;
 use session::due::Manner;
-use store::save::UNLOCKED;
+use store::save::Target;
 
-// A sitting: from what the file holds, with these lines, to their end.
+// A sitting: from what the file holds, with these lines, to their end. No lock is held.
 fn sitting(rt: HostRuntime, lines: &[u8]) {
     let k = Manner {
         storing: true,
         explaining: false,
     };
-    let path = b"again.img";
+    let to = Target {
+        path: b"again.img",
+        lock: None,
+    };
     let mut output = io::buffer();
     let mut image = io::buffer();
-    let started = start(rt, path, false);
-    if !started.ok {
+    let Ok(mut session) = start(rt, to.path, false) else {
         return;
+    };
+    let served = serve(rt, k, &mut session, to, lines, &mut output, &mut image);
+    if served.is_ok() {
+        let _ = serve_last(rt, k, session, to, &mut output, &mut image);
     }
-    let served = serve(
-        rt,
-        k,
-        started.session,
-        path,
-        lines,
-        &mut output,
-        &mut image,
-        UNLOCKED,
-    );
-    if !served.ok {
-        return;
-    }
-    serve_last(
-        rt,
-        k,
-        served.session,
-        path,
-        &mut output,
-        &mut image,
-        UNLOCKED,
-    );
 }
 
 // The first sitting is the program's own, over standard input; what it saved is there at the next.
 fn main(rt: HostRuntime) {
-    bench::run::run_on(rt, b"again.img");
+    let _ = bench::run::run_on(rt, b"again.img");
     sitting(rt, b"kln?\nkrm a\nwpa sks\n");
     sitting(rt, b"ksd a x 1\nkln?\n");
     sitting(rt, b"kln?\nksd a x 2\nwpa sks\nksd b\nwpa\nkrm a\nkln?\n");

@@ -1,29 +1,30 @@
-// The machine's public calls. None asks anything of its caller: a state that is not well formed comes back as it is, with 1 (`in_use` gives none back). What each promises, an equation
-// for all that it returns and the whole lent buffer, is what a history of stored states knows of it (Histories.antt of model).
+// The machine's public calls. None asks anything of its caller: a state that is not well formed comes back as it is, refused with 1 (`in_use` gives none back). What each promises,
+// an equation for all that it returns and the whole lent buffer, is what a history of stored states knows of it (Histories.antt of model).
 #![tactic(auto)]
 
-ghost use Rattle.std.specs.Prelude.{◌≡◌};
+ghost use Rattle.std.specs.Prelude.{◌≡◌, Err};
 ghost use Rattle.model.specs.Memory.{zero_position};
-ghost use Rattle.model.specs.Machine.{start_factory, refuses_use};
+ghost use Rattle.model.specs.Machine.{start_factory};
 ghost use Rattle.model.specs.Stored.{view_of, holds};
 ghost use Rattle.model.specs.Histories.{LinePromise, RestartPromise, PositionPromise, WritePromise, ImagePromise, UsePromise};
 ghost use Rattle.engine.specs.Answers.{returned};
 ghost use Rattle.machine.specs.Calls.{returned_alone, started_with, usage_of};
 
+use chains::links::Search;
 use engine::answer::Stepped;
 use facts::limits::BUFFER_LIMIT;
-use facts::numbers::{ACCEPTED, BEYOND, ILL_FORMED, NO_IMAGE, SHORT};
+use facts::refusals::Refusal;
 use memory::factory::factory_memory;
 use memory::fine::state_fine;
 use memory::stage::position_fine;
 use memory::used::use_of;
 use model::{Angles, Memory, Position, State, Vec3};
 
-// What a call without a lent buffer gives: the next state, and the number (0: accepted).
+// What a call without a lent buffer gives: the next state, and whether the call was refused.
 #[derive(Clone, Copy)]
 pub struct Begun {
     pub state: State,
-    pub number: u8,
+    pub outcome: Result<(), Refusal>,
 }
 
 // The position that is zero on every axis.
@@ -40,13 +41,12 @@ fn zero_position() -> Position
 fn started(m: Memory) -> State
     ensures { result ≡ started_with m }
 {
-    let position = zero_position();
     State {
         volatile: m,
         permanent: m,
-        position,
+        position: zero_position(),
         level: 0,
-        error: ACCEPTED,
+        error: 0,
     }
 }
 
@@ -63,14 +63,12 @@ pub fn restart(s: State) -> Begun
     if !state_fine(s) {
         return Begun {
             state: s,
-            number: ILL_FORMED,
+            outcome: Err(Refusal::IllFormed),
         };
     }
-    let saved = s.permanent;
-    let state = started(saved);
     Begun {
-        state,
-        number: ACCEPTED,
+        state: started(s.permanent),
+        outcome: Ok(()),
     }
 }
 
@@ -82,31 +80,28 @@ pub fn set_position(s: State, p: Position) -> Begun
     if !state_fine(s) {
         return Begun {
             state,
-            number: ILL_FORMED,
+            outcome: Err(Refusal::IllFormed),
         };
     }
     if !position_fine(p) {
         return Begun {
             state,
-            number: BEYOND,
+            outcome: Err(Refusal::Beyond),
         };
     }
     state.position = p;
     Begun {
         state,
-        number: ACCEPTED,
+        outcome: Ok(()),
     }
 }
 
-// A refusal that leaves the state and the lent buffer as they are.
-fn refusing(s: State, number: u8) -> Stepped
-    ensures { result ≡ record { state = s; number = number; length = 0 } }
+// A refusal that leaves the state and the lent buffer as they are. (The calls without a lent buffer have another answer, and refuse in a line each.)
+fn refusing(s: State, why: Refusal) -> Stepped
+    ensures { result ≡ record { state = s; outcome = Err why } }
 {
-    Stepped {
-        state: s,
-        number,
-        length: 0,
-    }
+    let outcome = Err(why);
+    Stepped { state: s, outcome }
 }
 
 // A command line, with a lent buffer for its reply.
@@ -116,7 +111,7 @@ pub fn line(s: State, line: &[u8], reply: &mut [u8]) -> Stepped
     if state_fine(s) {
         return engine::line::obey(s, line, reply);
     }
-    refusing(s, ILL_FORMED)
+    refusing(s, Refusal::IllFormed)
 }
 
 // The image of the permanent memory, into a lent buffer.
@@ -124,17 +119,14 @@ pub fn write_image(s: State, out: &mut [u8]) -> Stepped
     ensures { WritePromise s out.old (returned result out.new) }
 {
     if !state_fine(s) {
-        return refusing(s, ILL_FORMED);
+        return refusing(s, Refusal::IllFormed);
     }
     if out.len() < BUFFER_LIMIT {
-        return refusing(s, SHORT);
+        return refusing(s, Refusal::Short);
     }
-    let kept = s.permanent;
-    let length = image::write(kept, out);
     Stepped {
         state: s,
-        number: ACCEPTED,
-        length,
+        outcome: Ok(image::write(s.permanent, out)),
     }
 }
 
@@ -142,52 +134,24 @@ pub fn write_image(s: State, out: &mut [u8]) -> Stepped
 pub fn start_image(bytes: &[u8]) -> Begun
     ensures { ImagePromise bytes.now (returned_alone result) }
 {
-    let found = image::read(bytes);
-    let m = found.memory;
-    let state = started(m);
-    if found.ok {
-        return Begun {
-            state,
-            number: ACCEPTED,
-        };
-    }
-    Begun {
-        state,
-        number: NO_IMAGE,
+    match image::read(bytes) {
+        Ok(m) => Begun {
+            state: started(m),
+            outcome: Ok(()),
+        },
+        Err(why) => Begun {
+            state: start_factory(),
+            outcome: Err(why),
+        },
     }
 }
 
-// What the question of use gives: its number, whether the name is in use, and how many systems were looked at.
-#[derive(Clone, Copy)]
-pub struct Use {
-    pub number: u8,
-    pub used: bool,
-    pub looked: usize,
-}
-
-// No answer, for a state that is not well formed.
-fn unanswered() -> Use
-    ensures { usage_of result ≡ refuses_use }
-{
-    Use {
-        number: ILL_FORMED,
-        used: false,
-        looked: 0,
-    }
-}
-
-// Whether a name is in use in the volatile memory. Its bytes count as they are; a name that no system has is not in use.
-pub fn in_use(s: State, name: &[u8]) -> Use
+// Whether a name is in use in the volatile memory, and how many systems were looked at. Its bytes count as they are; a name that no system has is not in use.
+pub fn in_use(s: State, name: &[u8]) -> Result<Search, Refusal>
     ensures { UsePromise s name.now (usage_of result) }
 {
     if !state_fine(s) {
-        return unanswered();
+        return Err(Refusal::IllFormed);
     }
-    let m = s.volatile;
-    let search = use_of(m, name);
-    Use {
-        number: ACCEPTED,
-        used: search.found,
-        looked: search.looked,
-    }
+    Ok(use_of(s.volatile, name))
 }

@@ -1,21 +1,19 @@
 -- The test that names differ, for a scan that goes pair by pair.
-use Prim.Native.Nat.{ℕ, min, ◌+◌, ◌<◌, ◌≤◌}
-use mathlib.Core.Path.{◌≡◌, ◌∙◌}
-use mathlib.Core.List.{List}
+use Prim.Native.Nat.{ℕ, ◌+◌, ◌<◌, ◌≤◌}
+use mathlib.Core.Path.{◌≡◌}
+use mathlib.Core.List.{List, map}
 use mathlib.Core.Bool.{Bool, true, false, not, ◌&&◌}
 use native.Mathlib.Omega.{arith}
 use native.Mathlib.Decide.{dec_lt}
 use native.Mathlib.Numerals.{add-one}
-use lib.ListN.{length, drop, get_or, drop_of_length-le}
+use lib.ListN.{length, drop, get_or, get_or-map, drop_of_length-le}
 use lib.Seq.{drop-cons}
-use Rattle.model.specs.Limits.{max_systems}
-use Rattle.model.specs.declared.Memory.{Memory as StoredMemory}
+use Rattle.model.specs.declared.System.{System as StoredSystem}
 use Rattle.model.specs.Lists.{same, any}
 use Rattle.model.specs.Memory.{System, blank}
 use Rattle.model.specs.WellFormed.{names_differ}
-use Rattle.model.specs.Stored.{bytes_of, systems_of}
+use Rattle.model.specs.Stored.{bytes_of, system_of}
 use Rattle.chains.proofs.Copies.{unset}
-use Rattle.memory.proofs.Laws.{system_at_lem}
 use Rattle.memory.proofs.Tests.{any_turn, any_end}
 
 -- the system has the name of the one at index i
@@ -43,19 +41,16 @@ module _ (l : List System) where
   unfolding left
   left_miss i j h e = rw (any_turn (alike l i) l j blank h, e)
 
-  done : (i j : ℕ) → length l ≤ j → left l i j ≡ names_differ (drop (i + 1) l)
+  -- index i is done
+  pub left_done : (i j : ℕ) → length l ≤ j → left l i j ≡ names_differ (drop (i + 1) l)
   unfolding left
-  done i j h = rw (any_end (alike l i) l j h)
+  left_done i j h = rw (any_end (alike l i) l j h)
 
-  -- index i is done: the next one begins
-  pub left_next : (i j : ℕ) → length l ≤ j → left l i j ≡ left l (i + 1) (i + 1 + 1)
-  left_next i j h = done i j h ∙ left_from (i + 1)
-
-  pub left_end : (i j : ℕ) → length l ≤ i → i < j → left l i j ≡ true
-  unfolding left names_differ
-  left_end i j h k = rw (any_end (alike l i) l j (omega arith), drop_of_length-le l {i = i + 1} (omega arith))
+  pub differ_end : (i : ℕ) → length l ≤ i → names_differ (drop i l) ≡ true
+  unfolding names_differ
+  differ_end i h = rw (drop_of_length-le l {i = i} h)
 
 -- the names at i and j, as they are stored
-pub stored_alike : (m : StoredMemory) (k : ℕ) → length m.systems ≡ max_systems → k ≡ min m.count max_systems → (i j : ℕ) → i < k → j < k
-    → alike (systems_of m) i (get_or (systems_of m) j blank) ≡ same (bytes_of (get_or m.systems i unset).name) (bytes_of (get_or m.systems j unset).name)
-stored_alike m k long count i j hi hj = rw (system_at_lem m k long count i hi, system_at_lem m k long count j hj)
+pub stored_alike : (xs : List StoredSystem) (i j : ℕ)
+    → alike (map system_of xs) i (get_or (map system_of xs) j blank) ≡ same (bytes_of (get_or xs i unset).name) (bytes_of (get_or xs j unset).name)
+stored_alike xs i j = rw (get_or-map system_of xs i unset, get_or-map system_of xs j unset)

@@ -62,22 +62,29 @@ unfolding system_at
 at_place l zero h = absurd (omega arith)
 at_place l (suc i) h = let e : suc i - 1 ≡ i = omega arith in rw e
 
-module _ (m : StoredMemory) (k : ℕ) (long : length m.systems ≡ max_systems) (count : k ≡ min m.count max_systems) (a : ℕ) (pos : 0 < a) (there : a ≤ k) where
+-- the system at place a goes, of the first k that count
+pub record Removing (m : StoredMemory) (k a : ℕ) : Type 0 where
+  pub long : length m.systems ≡ max_systems
+  pub count : k ≡ min m.count max_systems
+  pub pos : 0 < a
+  pub there : a ≤ k
+
+module _ {m : StoredMemory} {k a : ℕ} (g : Removing m k a) where
   pub length_without : length (without (systems_of m) a) ≡ k - 1
-  length_without = let n = length_systems m k long count in without_length (systems_of m) a pos (omega arith) ∙ omega arith
+  length_without = let n = length_systems m k g.long g.count in without_length (systems_of m) a g.pos (omega (arith, g.there)) ∙ omega arith
 
   -- the system that goes, as it was stored
   pub gone_at : system_at (systems_of m) a ≡ system_of (get_or m.systems (a - 1) unset)
-  gone_at = at_place (systems_of m) a pos ∙ system_at_lem m k long count (a - 1) (omega arith)
+  gone_at = at_place (systems_of m) a g.pos ∙ system_at_lem m k g.long g.count (a - 1) (omega (arith, g.pos, g.there))
 
   -- the system that comes to index i, as it was stored
-  pub without_at : (i : ℕ) → i < k - 1 → get_or (without (systems_of m) a) i blank ≡ mended_system a (system_at (systems_of m) a).pred (system_of (get_or m.systems (kept_at (a - 1) i) unset))
+  pub without_at : (i : ℕ) → i < k - 1 → get_or (without (systems_of m) a) i blank ≡ mended_system a (get_or m.systems (a - 1) unset).pred (system_of (get_or m.systems (kept_at (a - 1) i) unset))
   unfolding system_at
   without_at i h =
-      let n = length_systems m k long count in
+      let n = length_systems m k g.long g.count in
       let e : system_at (systems_of m) (old a (suc i)) ≡ system_of (get_or m.systems (kept_at (a - 1) i) unset) =
-      rw (kept_old a i pos) (system_at_lem m k long count (kept_at (a - 1) i) (omega (arith, kept_within (a - 1) i))) in
-      removed_at_lem (systems_of m) a pos (omega arith) (suc i) ∙ ap (mended_system a (system_at (systems_of m) a).pred) e
+      rw (kept_old a i g.pos) (system_at_lem m k g.long g.count (kept_at (a - 1) i) (omega (arith, kept_within (a - 1) i, g.pos, g.there))) in
+      removed_at_lem (systems_of m) a g.pos (omega (arith, g.there)) (suc i) ∙ (λ d. mended_system a (gone_at d).pred (e d))
 
 -- an array that is filled in order with what stands for the elements of a list: one turn
 pub stored_turn : (xs : List StoredSystem) (l : List System) (i : ℕ) (s : StoredSystem) → i < length xs → i < length l → map system_of (take i xs) ≡ take i l → system_of s ≡ get_or l i blank → map system_of (take (i + 1) (set xs i s)) ≡ take (i + 1) l

@@ -1,25 +1,23 @@
 -- The search by name, for a scan that goes system by system and keeps the first that has the name.
-use Prim.Native.Nat.{ℕ, suc, ◌+◌, ◌-◌, min, ◌≤◌, ◌<◌}
+use Prim.Native.Nat.{ℕ, suc, ◌+◌, ◌-◌, ◌≤◌, ◌<◌}
 use mathlib.Core.Path.{◌≡◌, sym, ◌∙◌}
-use mathlib.Core.List.{List}
+use mathlib.Core.List.{List, map}
 use mathlib.Core.Bool.{Bool, true, false, ◌&&◌}
 use native.Mathlib.Omega.{arith}
 use native.Mathlib.Decide.{dec_lt}
 use native.Mathlib.Numerals.{add-one}
 use borrow.Author.Tests.{lt-ltb, le-ltb, eqb-true}
 use lib.Dec.{eqb}
-use lib.ListN.{length, get_or}
-use Rattle.model.specs.Limits.{max_systems}
+use lib.ListN.{length, take, get_or, length-map, get_or-map}
 use Rattle.model.specs.declared.System.{System as StoredSystem}
 use Rattle.model.specs.declared.Memory.{Memory as StoredMemory}
-use Rattle.model.specs.Lists.{same, least}
+use Rattle.model.specs.Lists.{all, same, least}
 use Rattle.model.specs.Memory.{System, blank, system_at, place_named}
-use Rattle.model.specs.Stored.{system_of, systems_of, name_shaped, memory_shaped}
-use Rattle.model.proofs.Basics.{true_false, and_split, least_is, least_hit}
+use Rattle.model.specs.Stored.{system_of, name_shaped}
+use Rattle.model.proofs.Basics.{true_false, and_split, all_at, least_is, least_hit}
 use Rattle.chains.proofs.Copies.{unset}
 use Rattle.memory.specs.Found.{Stands}
-use Rattle.memory.proofs.Laws.{length_systems, system_at_lem}
-use Rattle.model.proofs.Shape.{shaped_at, shaped_count}
+use Rattle.model.proofs.Shape.{shaped_names}
 
 -- the system at index j has the name
 abbrev pub has : List System → List ℕ → ℕ → Bool
@@ -71,55 +69,56 @@ module _ (l : List System) (n : List ℕ) where
           let k : place ≡ 0 = omega arith in
           k ∙ sym (place_none (λ j b. f.passed j b (λ z. absurd (omega arith))))
 
--- ---- over a stored memory whose first k systems count
+-- ---- over the stored systems that a memory holds
 
 -- what a scan has kept of the name n once it has passed i systems
-pub record Seen (m : StoredMemory) (n : List ℕ) (i place : ℕ) (s : StoredSystem) : Type 0 where
-  pub first : First (systems_of m) n i place
-  pub system_is : system_of s ≡ system_at (systems_of m) place
-  pub shaped : memory_shaped m ≡ true → name_shaped s ≡ true
+pub record Seen (xs : List StoredSystem) (n : List ℕ) (i place : ℕ) (s : StoredSystem) : Type 0 where
+  pub first : First (map system_of xs) n i place
+  pub system_is : system_of s ≡ system_at (map system_of xs) place
+  pub shaped : all name_shaped xs ≡ true → name_shaped s ≡ true
 
 -- the scan takes this system for the name, which has that place so far
 abbrev pub takes : List ℕ → ℕ → StoredSystem → Bool
 takes n place s = eqb place 0 && same n (system_of s).name
 
-module _ (m : StoredMemory) (n : List ℕ) where
-  pub seen_none : (s : StoredSystem) → system_of s ≡ blank → name_shaped s ≡ true → Seen m n 0 0 s
+module _ (xs : List StoredSystem) (n : List ℕ) where
+  pub seen_none : (s : StoredSystem) → system_of s ≡ blank → name_shaped s ≡ true → Seen xs n 0 0 s
   unfolding system_at
   seen_none s e p = record { first = record { met = λ h. absurd (omega arith); passed = λ j h. absurd (omega arith) }; system_is = e; shaped = λ q. p }
 
-  module _ (k : ℕ) (long : length m.systems ≡ max_systems) (count : k ≡ min m.count max_systems) where
-    module _ (i : ℕ) (within : i < k) (place : ℕ) (s : StoredSystem) (seen : Seen m n i place s) where
-      abbrev here : StoredSystem
-      here = get_or m.systems i unset
+  module _ (i : ℕ) (within : i < length xs) (place : ℕ) (s : StoredSystem) (seen : Seen xs n i place s) where
+    abbrev here : StoredSystem
+    here = get_or xs i unset
 
-      at_here : get_or (systems_of m) i blank ≡ system_of here
-      at_here = system_at_lem m k long count i within
+    at_here : get_or (map system_of xs) i blank ≡ system_of here
+    at_here = get_or-map system_of xs i unset
 
-      seen_hit : takes n place here ≡ true → Seen m n (i + 1) (i + 1) here
-      unfolding system_at
-      seen_hit e =
-          let t = and_split (eqb place 0) _ e in
-          record {
-            first = first_hit (systems_of m) n i (rw (eqb-true place 0 t.0) at seen.first) (rw at_here t.1);
-            system_is = rw add-one (sym at_here);
-            shaped = λ q. shaped_at m q unset i (omega (arith, shaped_count m q)) (omega (arith, shaped_count m q));
-          }
+    seen_hit : takes n place here ≡ true → Seen xs n (i + 1) (i + 1) here
+    unfolding system_at
+    seen_hit e =
+        let t = and_split (eqb place 0) _ e in
+        record {
+          first = first_hit (map system_of xs) n i (rw (eqb-true place 0 t.0) at seen.first) (rw at_here t.1);
+          system_is = rw add-one (sym at_here);
+          shaped = λ q. all_at name_shaped xs unset i q within;
+        }
 
-      seen_miss : takes n place here ≡ false → Seen m n (i + 1) place s
-      seen_miss e = record {
-        first = first_miss (systems_of m) n i place seen.first (λ z. rw at_here (rw z at e));
-        system_is = seen.system_is;
-        shaped = seen.shaped;
-      }
-
-      -- one system more, by what the code found of it
-      pub seen_turn : (r : Bool) → r ≡ takes n place here → (r ≡ true → Seen m n (i + 1) (i + 1) here) × (r ≡ false → Seen m n (i + 1) place s)
-      seen_turn r e = (λ t. seen_hit (sym e ∙ t), λ f. seen_miss (sym e ∙ f))
-
-    pub seen_all : (place : ℕ) (s : StoredSystem) → Seen m n k place s → Stands m n place s
-    seen_all place s seen = record {
-      place_is = first_named_lem (systems_of m) n place (rw (length_systems m k long count) seen.first);
+    seen_miss : takes n place here ≡ false → Seen xs n (i + 1) place s
+    seen_miss e = record {
+      first = first_miss (map system_of xs) n i place seen.first (λ z. rw at_here (rw z at e));
       system_is = seen.system_is;
       shaped = seen.shaped;
     }
+
+    -- one system more, by what the code found of it
+    pub seen_turn : (r : Bool) → r ≡ takes n place here → (r ≡ true → Seen xs n (i + 1) (i + 1) here) × (r ≡ false → Seen xs n (i + 1) place s)
+    seen_turn r e = (λ t. seen_hit (sym e ∙ t), λ f. seen_miss (sym e ∙ f))
+
+  pub seen_all : (m : StoredMemory) → xs ≡ take m.count m.systems → (i place : ℕ) (s : StoredSystem) → i ≡ length xs → Seen xs n i place s → Stands m n place s
+  seen_all m held i place s e seen =
+      let l = map system_of xs in
+      let first : First l n (length l) place = rw (length-map xs system_of, ← e) seen.first in record {
+        place_is = rw (← held) (first_named_lem l n place first);
+        system_is = rw (← held) seen.system_is;
+        shaped = λ q. seen.shaped (rw held (shaped_names m q));
+      }

@@ -1,6 +1,5 @@
 pub mod Found
 pub mod Sought
-pub mod Codes
 pub mod Fine
 pub mod Put
 pub mod Keys

@@ -5,36 +5,28 @@ ghost use Rattle.model.specs.WellFormed.{names_differ};
 ghost use Rattle.model.specs.Stored.{bytes_of, systems_of};
 ghost use Rattle.memory.specs.Keys.{key_of, keys_of};
 
-use crate::names::{clipped, same_name};
-use chains::links::held;
+use crate::names::same_name;
+use chains::held::held;
 use facts::limits::MAX_SYSTEMS;
 use model::{Memory, Name};
 
 fn name_key(n: Name) -> u32
     ensures { result ≡ key_of (bytes_of n) }
 {
-    let k = clipped(n.len);
-    if k == 0 {
-        return 0;
+    let t = held(&n.bytes, n.len);
+    match (t.first(), t.last()) {
+        (Some(first), Some(last)) => t.len() as u32 + 256 * *first as u32 + 65536 * *last as u32,
+        _ => 0,
     }
-    let x = n.bytes;
-    let end = k - 1;
-    let first = x[0] as u32;
-    let last = x[end] as u32;
-    k as u32 + 256 * first + 65536 * last
 }
 
+// The keys of the systems that count; behind them there are zeros. (There is no heap: the array has room for all.)
 fn name_keys(m: Memory) -> [u32; MAX_SYSTEMS]
     ensures { take (min m.count max_systems) result ≡ keys_of (systems_of m) }
 {
-    let count = held(m.count);
     let mut keys = [0u32; MAX_SYSTEMS];
-    let mut i = 0;
-    while i < count {
-        let s = m.systems[i];
-        let name = s.name;
-        keys[i] = name_key(name);
-        i += 1;
+    for (i, s) in held(&m.systems, m.count).iter().enumerate() {
+        keys[i] = name_key(s.name);
     }
     keys
 }
@@ -43,25 +35,13 @@ fn name_keys(m: Memory) -> [u32; MAX_SYSTEMS]
 pub fn names_differ(m: Memory) -> bool
     ensures { result ≡ names_differ (systems_of m) }
 {
-    let count = held(m.count);
+    let systems = held(&m.systems, m.count);
     let keys = name_keys(m);
-    let mut i = 0;
-    let mut j = 1;
-    while i < count {
-        if count <= j {
-            i += 1;
-            j = i + 1;
-        } else if keys[i] != keys[j] {
-            j += 1;
-        } else {
-            let s = m.systems[i];
-            let a = s.name;
-            let t = m.systems[j];
-            let b = t.name;
-            if same_name(a, b) {
+    for i in 0..systems.len() {
+        for j in i + 1..systems.len() {
+            if keys[i] == keys[j] && same_name(systems[i].name, systems[j].name) {
                 return false;
             }
-            j += 1;
         }
     }
     true

@@ -13,27 +13,25 @@ use model::{Enabled, Group, Kind, OperatingPart};
 fn with_operating(e: Enabled, operating: OperatingPart) -> Enabled
     ensures { result ≡ with_operating e operating }
 {
-    Enabled {
-        operating,
-        orientational: e.orientational,
-        levelling: e.levelling,
-    }
+    Enabled { operating, ..e }
 }
 
 fn with_orientational(e: Enabled, place: u8) -> Enabled
     ensures { result ≡ with_orientational e place }
 {
-    let mut r = e;
-    r.orientational = place;
-    r
+    Enabled {
+        orientational: place,
+        ..e
+    }
 }
 
 fn with_levelling(e: Enabled, place: u8) -> Enabled
     ensures { result ≡ with_levelling e place }
 {
-    let mut r = e;
-    r.levelling = place;
-    r
+    Enabled {
+        levelling: place,
+        ..e
+    }
 }
 
 // The user system at a place, by its type.
@@ -83,12 +81,14 @@ fn enabling_at(level: u8, e: Enabled, kind: Kind, group: Group, place: u8) -> En
 }
 
 // What is enabled once the system that was found is; kind is the type at its place. Nothing found counts as ZERO, as in the definitions.
-pub fn enabling(level: u8, e: Enabled, kind: Kind, f: Found) -> Enabled
+pub fn enabling(level: u8, e: Enabled, kind: Kind, f: Option<Found>) -> Enabled
     ensures { (l : List SystemOf) → kind ≡ (system_at l (found_place f)).kind → result ≡ enabling level (holding l e) (ref_or (found_ref l f)) }
 {
-    match f {
+    let Some(found) = f else {
+        return enabling_at(level, e, kind, Group::Operating, 0);
+    };
+    match found {
         Found::User(place) => enabling_at(level, e, kind, Group::Operating, place),
         Found::Fixed(group) => enabling_at(level, e, kind, group, 0),
-        Found::Absent => enabling_at(level, e, kind, Group::Operating, 0),
     }
 }

@@ -8,8 +8,8 @@ use facts::names::no_name;
 use model::{Enabled, Kind, Memory, OperatingPart, System, Turns, Vec3};
 
 pub fn blank_system() -> System
-    ensures result_value { system_of result ≡ blank }
-    ensures result_value_2 { name_shaped result ≡ true }
+    ensures stands_for { system_of result ≡ blank }
+    ensures shaped { name_shaped result ≡ true }
 {
     let name = no_name();
     let offset = Vec3 { x: 0, y: 0, z: 0 };
@@ -26,8 +26,8 @@ pub fn blank_system() -> System
 
 // No user systems, the fixed ones enabled.
 pub fn factory_memory() -> Memory
-    ensures result_value { memory_of result ≡ factory }
-    ensures result_value_2 { memory_shaped result ≡ true }
+    ensures stands_for { memory_of result ≡ factory }
+    ensures shaped { memory_shaped result ≡ true }
 {
     let blank = blank_system();
     let systems = [blank; MAX_SYSTEMS];

@@ -5,63 +5,40 @@ ghost use Rattle.model.specs.Limits.{name_limit};
 ghost use Rattle.model.specs.Words.{legal_name, reserved};
 ghost use Rattle.model.specs.Stored.{bytes_of};
 
+use chains::held::held;
 use facts::limits::NAME_LIMIT;
 use model::Name;
 use text::names::{name_byte, same_bytes};
 use text::words::between;
 
-// How many bytes a stored name has.
-pub fn clipped(n: u8) -> usize
-    ensures { result ≡ min n name_limit }
-{
-    let len = n as usize;
-    if NAME_LIMIT < len {
-        return NAME_LIMIT;
-    }
-    len
-}
-
 // The name has these bytes.
 pub fn has_bytes(n: Name, t: &[u8]) -> bool
     ensures { result ≡ same t.now (bytes_of n) }
 {
-    let k = clipped(n.len);
-    let x = n.bytes;
-    same_bytes(t, &x[..k])
+    same_bytes(t, held(&n.bytes, n.len))
 }
 
 pub fn same_name(a: Name, b: Name) -> bool
     ensures { result ≡ same (bytes_of a) (bytes_of b) }
 {
-    let k = clipped(a.len);
-    let x = a.bytes;
-    has_bytes(b, &x[..k])
+    has_bytes(b, held(&a.bytes, a.len))
 }
 
 // A name's bytes: a capital, then capitals, digits and underscores, few enough.
 pub fn legal_bytes(t: &[u8]) -> bool
     ensures { result ≡ legal_name t.now }
 {
-    let n = t.len();
-    if n == 0 {
-        return false;
-    }
-    if NAME_LIMIT < n {
-        return false;
-    }
-    if !between(b'A', b'Z', t[0]) {
-        return false;
-    }
-    let mut i = 1;
-    while i < n {
-        if !name_byte(t[i]) {
-            return false;
+    match t {
+        [first, rest @ ..] => {
+            t.len() <= NAME_LIMIT
+                && between(b'A', b'Z', *first)
+                && rest.iter().all(|b| name_byte(*b))
         }
-        i += 1;
+        [] => false,
     }
-    true
 }
 
+// One of four texts. (Tests in a row: a table would be laid out on the stack at each call, docs/DECISIONS.md 5.)
 pub fn reserved_bytes(t: &[u8]) -> bool
     ensures { result ≡ reserved t.now }
 {
@@ -75,20 +52,13 @@ pub fn reserved_bytes(t: &[u8]) -> bool
 pub fn reserved_name(n: Name) -> bool
     ensures { result ≡ reserved (bytes_of n) }
 {
-    let k = clipped(n.len);
-    let x = n.bytes;
-    reserved_bytes(&x[..k])
+    reserved_bytes(held(&n.bytes, n.len))
 }
 
 // A user system may have the name.
 pub fn name_fine(n: Name) -> bool
     ensures { result ≡ legal_name (bytes_of n) && not (reserved (bytes_of n)) }
 {
-    let k = clipped(n.len);
-    let x = n.bytes;
-    let t = &x[..k];
-    if !legal_bytes(t) {
-        return false;
-    }
-    !reserved_bytes(t)
+    let t = held(&n.bytes, n.len);
+    legal_bytes(t) && !reserved_bytes(t)
 }

@@ -34,13 +34,13 @@ fn at_end(g: Group) -> Sought
 }
 
 // Where what was found is sought, and where nothing was found, a place that is never met.
-fn sought_for(f: Found) -> Sought
+fn sought_for(f: Option<Found>) -> Sought
     ensures { result ≡ sought_for f }
 {
     match f {
-        Found::User(k) => at_place(k as usize),
-        Found::Fixed(g) => at_end(g),
-        Found::Absent => at_place(NOWHERE),
+        Some(Found::User(k)) => at_place(k as usize),
+        Some(Found::Fixed(g)) => at_end(g),
+        None => at_place(NOWHERE),
     }
 }
 
@@ -51,8 +51,5 @@ pub fn use_of(m: Memory, name: &[u8]) -> Search
 {
     let sought = sought_for(found_named(m, name));
     let links = links_of(m);
-    let preds = links.preds;
-    let count = links.count;
-    let enabled = m.enabled;
-    in_use(enabled, &preds[..count], sought)
+    in_use(m.enabled, links.flat(), sought)
 }

@@ -2,7 +2,7 @@
 #![tactic(auto)]
 
 // A signed coordinate axis.
-#[derive(Clone, Copy)]
+#[derive(Clone, Copy, PartialEq, Eq)]
 pub enum Dir {
     Px,
     Nx,
@@ -37,7 +37,7 @@ pub struct Turns {
 }
 
 // The types of user systems.
-#[derive(Clone, Copy)]
+#[derive(Clone, Copy, PartialEq, Eq)]
 pub enum Kind {
     Ksd,
     Kst,
@@ -47,7 +47,7 @@ pub enum Kind {
     Ksf,
 }
 
-#[derive(Clone, Copy)]
+#[derive(Clone, Copy, PartialEq, Eq)]
 pub enum Group {
     Operating,
     Orientational,

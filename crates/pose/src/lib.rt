@@ -17,8 +17,8 @@ pub struct Pose {
 }
 
 pub fn sum(p: Vec3, q: Vec3) -> Vec3
-    requires within { Within reach p }
-    requires within_2 { Within reach q }
+    requires p_near { Within reach p }
+    requires q_near { Within reach q }
     ensures { result ≡ plus p q }
 {
     Vec3 {
@@ -62,34 +62,31 @@ impl Pose {
     pub fn of_turns(turns: Turns) -> Pose
         ensures { pose_of result ≡ record { at = origin; rot = rot_of turns } }
     {
-        let mut pose = Pose::neutral();
-        let rot = rotation::named(turns);
-        pose.rot = rot;
-        pose
+        Pose {
+            rot: rotation::named(turns),
+            ..Pose::neutral()
+        }
     }
 
     // A system's own pose: its turns, and then its offset.
     pub fn of(offset: Vec3, turns: Turns) -> Pose
         ensures { pose_of result ≡ record { at = offset; rot = rot_of turns } }
     {
-        let mut pose = Pose::of_turns(turns);
-        pose.at = offset;
-        pose
+        Pose {
+            at: offset,
+            ..Pose::of_turns(turns)
+        }
     }
 
     // The predecessor's pose, and a system's own pose followed on from it.
     pub fn follow(self, own: Pose) -> Pose
-        requires within { Within reach self.at }
-        requires within_2 { Within reach own.at }
+        requires self_near { Within reach self.at }
+        requires own_near { Within reach own.at }
         ensures { pose_of result ≡ followed (pose_of self) (pose_of own) }
     {
-        let p = self.at;
-        let r = self.rot;
-        let t = own.at;
-        let s = own.rot;
-        let turned = rotation::turn(r, t);
-        let at = sum(p, turned);
-        let rot = rotation::compose(r, s);
+        let turned = rotation::turn(self.rot, own.at);
+        let at = sum(self.at, turned);
+        let rot = rotation::compose(self.rot, own.rot);
         Pose { at, rot }
     }
 
@@ -98,9 +95,8 @@ impl Pose {
         requires { Within widest self.at }
         ensures { pose_of result ≡ inverse (pose_of self) }
     {
-        let p = self.at;
         let back = rotation::transpose(self.rot);
-        let away = opposite(p);
+        let away = opposite(self.at);
         let at = rotation::turn(back, away);
         Pose { at, rot: back }
     }

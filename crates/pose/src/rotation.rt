@@ -22,16 +22,13 @@ fn flipped(d: Dir) -> Dir
 fn row_of(d: Dir, s: Rot) -> Dir
     ensures { result ≡ row d s }
 {
-    let a = s.a;
-    let b = s.b;
-    let c = s.c;
     match d {
-        Dir::Px => a,
-        Dir::Nx => flipped(a),
-        Dir::Py => b,
-        Dir::Ny => flipped(b),
-        Dir::Pz => c,
-        Dir::Nz => flipped(c),
+        Dir::Px => s.a,
+        Dir::Nx => flipped(s.a),
+        Dir::Py => s.b,
+        Dir::Ny => flipped(s.b),
+        Dir::Pz => s.c,
+        Dir::Nz => flipped(s.c),
     }
 }
 
@@ -39,13 +36,11 @@ fn row_of(d: Dir, s: Rot) -> Dir
 pub fn compose(r: Rot, s: Rot) -> Rot
     ensures { result ≡ after r s }
 {
-    let ra = r.a;
-    let rb = r.b;
-    let rc = r.c;
-    let a = row_of(ra, s);
-    let b = row_of(rb, s);
-    let c = row_of(rc, s);
-    Rot { a, b, c }
+    Rot {
+        a: row_of(r.a, s),
+        b: row_of(r.b, s),
+        c: row_of(r.c, s),
+    }
 }
 
 fn coord_of(d: Dir, v: Vec3) -> i64
@@ -66,28 +61,13 @@ fn coord_of(d: Dir, v: Vec3) -> i64
 fn with_row(d: Dir, e: Dir, r: Rot) -> Rot
     ensures { result ≡ with_row d e r }
 {
-    let a = r.a;
-    let b = r.b;
-    let c = r.c;
     match d {
-        Dir::Px => Rot { a: e, b, c },
-        Dir::Nx => Rot {
-            a: flipped(e),
-            b,
-            c,
-        },
-        Dir::Py => Rot { a, b: e, c },
-        Dir::Ny => Rot {
-            a,
-            b: flipped(e),
-            c,
-        },
-        Dir::Pz => Rot { a, b, c: e },
-        Dir::Nz => Rot {
-            a,
-            b,
-            c: flipped(e),
-        },
+        Dir::Px => Rot { a: e, ..r },
+        Dir::Nx => Rot { a: flipped(e), ..r },
+        Dir::Py => Rot { b: e, ..r },
+        Dir::Ny => Rot { b: flipped(e), ..r },
+        Dir::Pz => Rot { c: e, ..r },
+        Dir::Nz => Rot { c: flipped(e), ..r },
     }
 }
 
@@ -95,12 +75,9 @@ fn with_row(d: Dir, e: Dir, r: Rot) -> Rot
 pub fn transpose(r: Rot) -> Rot
     ensures { result ≡ transposed r }
 {
-    let a = r.a;
-    let b = r.b;
-    let c = r.c;
-    let z = with_row(c, Dir::Pz, r);
-    let yz = with_row(b, Dir::Py, z);
-    with_row(a, Dir::Px, yz)
+    let z = with_row(r.c, Dir::Pz, r);
+    let yz = with_row(r.b, Dir::Py, z);
+    with_row(r.a, Dir::Px, yz)
 }
 
 // R·t: a rotation applied to a column.
@@ -108,34 +85,24 @@ pub fn turn(r: Rot, v: Vec3) -> Vec3
     requires { Within widest v }
     ensures { result ≡ turned r v }
 {
-    let a = r.a;
-    let b = r.b;
-    let c = r.c;
-    let x = coord_of(a, v);
-    let y = coord_of(b, v);
-    let z = coord_of(c, v);
-    Vec3 { x, y, z }
+    Vec3 {
+        x: coord_of(r.a, v),
+        y: coord_of(r.b, v),
+        z: coord_of(r.c, v),
+    }
 }
 
 fn number(d: Dir) -> u8
     ensures { (result ≡ axis_number d) × (result < 6) }
 {
-    match d {
-        Dir::Px => 0,
-        Dir::Nx => 1,
-        Dir::Py => 2,
-        Dir::Ny => 3,
-        Dir::Pz => 4,
-        Dir::Nz => 5,
-    }
+    d as u8
 }
 
 // So many quarter turns about Z.
 fn about_z(quarters: u8) -> Rot
     ensures { result ≡ times quarters quarter_z }
 {
-    let n = quarters % 4;
-    match n {
+    match quarters % 4 {
         0 => Rot {
             a: Dir::Px,
             b: Dir::Py,
@@ -163,11 +130,8 @@ fn about_z(quarters: u8) -> Rot
 fn about_y(quarters: u8, s: Rot) -> Rot
     ensures { result ≡ after (times quarters quarter_y) s }
 {
-    let a = s.a;
-    let b = s.b;
-    let c = s.c;
-    let n = quarters % 4;
-    match n {
+    let Rot { a, b, c } = s;
+    match quarters % 4 {
         0 => s,
         1 => Rot {
             a: c,
@@ -191,11 +155,8 @@ fn about_y(quarters: u8, s: Rot) -> Rot
 fn about_x(quarters: u8, s: Rot) -> Rot
     ensures { result ≡ after (times quarters quarter_x) s }
 {
-    let a = s.a;
-    let b = s.b;
-    let c = s.c;
-    let n = quarters % 4;
-    match n {
+    let Rot { a, b, c } = s;
+    match quarters % 4 {
         0 => s,
         1 => Rot {
             a,
@@ -283,14 +244,11 @@ pub fn triple_at(place: u8) -> Turns
 pub fn shown_of(r: Rot) -> Turns
     ensures { result ≡ shown r }
 {
-    let a = r.a;
-    let b = r.b;
-    let c = r.c;
-    let i = number(a);
-    let j = number(b);
-    let k = number(c);
+    let i = number(r.a);
+    let j = number(r.b);
+    let k = number(r.c);
     let first = first_named(i * 6 + j);
-    if first / 64 != k as u16 {
+    if first / 64 != u16::from(k) {
         return triple_at(63);
     }
     triple_at((first % 64) as u8)

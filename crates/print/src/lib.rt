@@ -17,13 +17,10 @@ pub fn put_text(out: &mut [u8], at: usize, text: &[u8]) -> usize
     requires { at + length text.now ≤ length out.old }
     ensures { Wrote text.now out.old at out.new result }
 {
-    let n = text.len();
-    let mut i = 0;
-    while i < n {
-        out[at + i] = text[i];
-        i += 1;
+    for (i, b) in text.iter().enumerate() {
+        out[at + i] = *b;
     }
-    at + n
+    at + text.len()
 }
 
 // The bytes of a stored name that count.

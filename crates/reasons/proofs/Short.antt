@@ -18,11 +18,11 @@ use Rattle.print.proofs.Laws.{wrote_first}
 abbrev short : ℕ → Bool
 short n = leb (length (reason n)) 100
 
-pub reason_short : (n : ℕ) → n < 256 → length (reason n) ≤ 100
+reason_short : (n : ℕ) → n < 256 → length (reason n) ≤ 100
 unfolding later_reason reason
 reason_short n h = leb→le (length (reason n)) 100 (at 256 short tt n h)
 
-line_short : (n : ℕ) → n < 256 → length (reason_line n) ≤ 106
+pub line_short : (n : ℕ) → n < 256 → length (reason_line n) ≤ 106
 line_short n h =
     omega (
       arith,

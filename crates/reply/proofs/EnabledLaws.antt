@@ -1,7 +1,6 @@
 -- KEN? by its parts.
 use Prim.Native.Nat.{ℕ, ◌+◌, ◌-◌, ◌≤◌, ◌<◌}
-use mathlib.Core.Path.{◌≡◌, refl, sym}
-use mathlib.Core.Bool.{true, false, false≢true}
+use mathlib.Core.Path.{◌≡◌}
 use mathlib.Core.List.{List, [], ◌∷◌, ◌++◌, map, append_assoc, append-nil}
 use native.Mathlib.Omega.{arith}
 use native.Mathlib.Decide.{dec_lt}
@@ -19,21 +18,11 @@ use Rattle.chains.proofs.Copies.{unset}
 use Rattle.model.proofs.Shape.{systems_of_count}
 use Rattle.model.specs.Effects.{tool_half}
 use Rattle.reply.specs.Types.{Kind, Operating, Orientational, Levelling, Enabled, OperatingPart, Single, Pair, StoredMemory}
-use Rattle.reply.specs.Lines.{further, enabled_text}
-use Rattle.reply.specs.EnabledText.{pair?, tool_text, groups_text}
+use Rattle.reply.specs.Lines.{enabled_text}
+use Rattle.reply.specs.EnabledText.{tool_text, groups_text}
 use Rattle.reply.proofs.TurnLaws.{enabled_turn}
 
 -- ---- the parts
-
-pub tool_none : (part : OperatingPart) (s : System) → pair? part ≡ false → tool_text part s ≡ []
-unfolding tool_text
-tool_none (Single p) s e = refl
-tool_none (Pair w t) s e = absurd (false≢true (sym e))
-
-pub tool_line : (part : OperatingPart) (s : System) → pair? part ≡ true → tool_text part s ≡ further (enabled_text Operating (tool_half part) s)
-unfolding tool_text
-tool_line (Single p) s e = absurd (false≢true e)
-tool_line (Pair w t) s e = refl
 
 pub length_groups : (e : Enabled) (o l : System) → length (groups_text e o l) ≡ 5 + length (enabled_text Orientational e.orientational o) + length (enabled_text Levelling e.levelling l)
 unfolding groups_text

@@ -4,7 +4,7 @@ use mathlib.Core.Path.{◌≡◌, refl, sym, ap, ◌∙◌}
 use mathlib.Core.List.{List, []}
 use native.Mathlib.Omega.{arith}
 use lib.IntN.{ℤ}
-use lib.ListN.{take, get_or}
+use lib.ListN.{get_or}
 use Rattle.model.specs.Kinds.{of_kind}
 use Rattle.model.specs.Memory.{System, system_at, name_of, fixed_ref, user_ref}
 use Rattle.model.specs.Reply.{pose_line, resultant_line}
@@ -42,7 +42,7 @@ ref_user l g (suc k) h = let e : suc k - 1 ≡ k = omega arith in rw e
 -- ---- what is reached from place q, that of the stored system i
 
 module _ {m : StoredMemory} {preds : List ℕ} {offsets : List ℤ} {turns : List ℕ} (flat : FlatOf m preds offsets turns)
-    {q i : ℕ} {w : Walk} (e : q ≡ suc i) (h : i < m.count) (is : w ≡ walked (framed offsets turns (take m.count preds)) q) where
+    {q i : ℕ} {w : Walk} (e : q ≡ suc i) (h : i < m.count) (is : w ≡ walked (framed offsets turns preds) q) where
   reached : w ≡ walked (systems_of m) (suc i)
   reached = is ∙ flat_walk flat q ∙ ap (walked (systems_of m)) e
 

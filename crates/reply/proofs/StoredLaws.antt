@@ -6,7 +6,8 @@ use mathlib.Core.List.{List}
 use native.Mathlib.Omega.{arith}
 use native.Mathlib.Decide.{dec_lt}
 use borrow.Author.Tests.{leb-true}
-use lib.ListN.{length, get_or}
+use lib.ListN.{length, take, get_or, length-take}
+use Rattle.std.proofs.lemmas.List.{get_or-take}
 use Rattle.model.specs.Limits.{name_limit, offset_limit}
 use Rattle.model.specs.Memory.{System, system_at}
 use Rattle.model.specs.Stored.{system_of, systems_of, memory_of, memory_shaped}
@@ -36,6 +37,13 @@ turns_at l f (suc i) = go (dec_lt (length l) (suc i))
 -- ---- a memory with shape that is well formed; long is what owning it tells
 
 module _ (m : StoredMemory) (shaped : memory_shaped m ≡ true) (long : length m.systems ≡ 16) where
+  -- so many systems are lent, as they stand in the array
+  pub lent_count : length (take m.count m.systems) ≡ m.count
+  lent_count = omega (arith, length-take m.count m.systems, shaped_count m shaped, long)
+
+  pub lent_at : (i : ℕ) → i < m.count → get_or (take m.count m.systems) i unset ≡ get_or m.systems i unset
+  lent_at i h = get_or-take m.count m.systems i unset h
+
   pub name_fits : (i : ℕ) → i < m.count → (get_or m.systems i unset).name.len ≤ name_limit
   name_fits i h =
       leb-true _ name_limit (shaped_at m shaped unset i h (omega (arith, shaped_count m shaped)))

@@ -1,10 +1,10 @@
 -- The line of a place is the text of the stored system that stands there.
-use Prim.Native.Nat.{ℕ, zero, suc, ◌+◌, ◌-◌, ◌≤◌, ◌<◌}
+use Prim.Native.Nat.{ℕ, zero, suc, ◌-◌, ◌≤◌, ◌<◌}
 use mathlib.Core.Path.{◌≡◌, refl, sym, ap, ◌∙◌}
 use mathlib.Core.Bool.{true}
 use mathlib.Core.List.{List, [], ◌∷◌}
 use native.Mathlib.Omega.{arith}
-use lib.ListN.{length, get_or}
+use lib.ListN.{length, take, get_or}
 use Rattle.model.specs.Ascii.{ascii}
 use Rattle.model.specs.Lists.{joined}
 use Rattle.model.specs.Kinds.{of_kind, of_group}
@@ -14,10 +14,9 @@ use Rattle.model.specs.Use.{in_group}
 use Rattle.model.specs.WellFormed.{memory_fine}
 use Rattle.model.specs.Reply.{system_line, link_line, enabled_line}
 use Rattle.chains.proofs.Copies.{unset}
-use Rattle.reply.specs.Types.{Group, StoredMemory}
+use Rattle.reply.specs.Types.{Group, StoredMemory, StoredSystem}
 use Rattle.reply.specs.Lines.{system_text, at_fixed, pred_text, link_text, enabled_text}
-use Rattle.reply.proofs.LineLaws.{at_user}
-use Rattle.reply.proofs.StoredLaws.{stands_at, pred_fits}
+use Rattle.reply.proofs.StoredLaws.{lent_at, stands_at, pred_fits}
 
 -- ---- over the systems of the definitions
 
@@ -55,9 +54,8 @@ enabled_at l g (suc k) = refl
 -- ---- over stored systems
 
 module _ (m : StoredMemory) (shaped : memory_shaped m ≡ true) (long : length m.systems ≡ 16) where
-  -- whatever a fixed system's text would be
-  pub system_turn : (a : List ℕ) (i : ℕ) → i < m.count → system_line (systems_of m) (user_ref (systems_of m) (suc i)) ≡ at_fixed (i + 1) a (system_text (system_of (get_or m.systems i unset)))
-  system_turn a i h = system_at_lem (systems_of m) i ∙ ap system_text (stands_at m shaped long i h) ∙ sym (at_user (i + 1) a _ (λ e. omega arith))
+  pub system_turn : (i : ℕ) → i < m.count → system_line (systems_of m) (user_ref (systems_of m) (suc i)) ≡ system_text (system_of (get_or (take m.count m.systems) i unset))
+  system_turn i h = system_at_lem (systems_of m) i ∙ ap system_text (stands_at m shaped long i h) ∙ ap (λ (s : StoredSystem). system_text (system_of s)) (sym (lent_at m shaped long i h))
 
   -- the stored system of a place that is a user system's
   stored_place : (p : ℕ) → p ≤ m.count → (p ≡ 0 → ⊥) → system_at (systems_of m) p ≡ system_of (get_or m.systems (p - 1) unset)
@@ -71,12 +69,12 @@ module _ (m : StoredMemory) (shaped : memory_shaped m ≡ true) (long : length m
   enabled_turn g zero h = enabled_at (systems_of m) g zero
   enabled_turn g (suc k) h = enabled_at (systems_of m) g (suc k) ∙ ap (enabled_text g (suc k)) (stored_place (suc k) h (λ e. omega arith))
 
-  pub link_turn : memory_fine (memory_of m) ≡ true → (a : List ℕ) (i : ℕ) → i < m.count → link_line (systems_of m) (user_ref (systems_of m) (suc i))
-      ≡ at_fixed (i + 1) a (link_text (system_of (get_or m.systems i unset)) (bytes_of (get_or m.systems ((get_or m.systems i unset).pred - 1) unset).name))
-  link_turn fine a i h =
+  pub link_turn : memory_fine (memory_of m) ≡ true → (i : ℕ) → i < m.count → let s = get_or (take m.count m.systems) i unset in
+      link_line (systems_of m) (user_ref (systems_of m) (suc i)) ≡ link_text (system_of s) (bytes_of (get_or m.systems (s.pred - 1) unset).name)
+  link_turn fine i h =
       let l = systems_of m in
       let s = get_or m.systems i unset in
       link_at l i
       ∙ ap (λ (t : System). link_text t (system_at l t.pred).name) (stands_at m shaped long i h)
       ∙ link_same (system_of s) _ _ (λ n. ap (λ (t : System). t.name) (stored_place s.pred (pred_fits m shaped long fine i h) n))
-      ∙ sym (at_user (i + 1) a _ (λ e. omega arith))
+      ∙ ap (λ (t : StoredSystem). link_text (system_of t) (bytes_of (get_or m.systems (t.pred - 1) unset).name)) (sym (lent_at m shaped long i h))

@@ -1,15 +1,11 @@
 -- KEN? by its parts: the first line, the tool's if there is one, and the other two groups'.
-use Rattle.model.specs.Base.{ℕ, List, [], Bool, true, false}
+use Rattle.model.specs.Base.{ℕ, List, []}
 use Rattle.std.specs.Prelude.{◌≤◌, ◌<◌, ◌++◌}
 use Rattle.model.specs.Ascii.{ascii}
 use Rattle.model.specs.Limits.{name_limit}
 use Rattle.model.specs.Memory.{System}
 use Rattle.reply.specs.Types.{Operating, Orientational, Levelling, Enabled, OperatingPart, Single, Pair, StoredSystem}
 use Rattle.reply.specs.Lines.{further, enabled_text}
-
-abbrev pub pair? : OperatingPart → Bool
-pair? (Single p) = false
-pair? (Pair w t) = true
 
 -- the tool's line, where a pair is enabled; s is the tool if it is a user system
 unfoldable pub tool_text : OperatingPart → System → List ℕ

@@ -2,18 +2,18 @@
 // left of the buffer.
 #![tactic(auto)]
 
-ghost use Rattle.std.specs.Prelude.{◌≡◌, ◌++◌, [], ◌-◌, ◌≤◌, length};
+ghost use Rattle.std.specs.Prelude.{◌≡◌, ◌++◌, ◌-◌, ◌≤◌, length};
 ghost use Rattle.model.specs.Ascii.{ascii};
 ghost use Rattle.model.specs.Limits.{buffer_limit};
 ghost use Rattle.model.specs.Stored.{memory_of, FineMemory};
 ghost use Rattle.model.specs.Request.{systems_all, links};
-ghost use Rattle.model.specs.Reply.{decimal, system_line, link_line, listed};
+ghost use Rattle.model.specs.Reply.{decimal, listed};
 ghost use Rattle.print.specs.Over.{Wrote};
-ghost use Rattle.reply.specs.Lines.{Replied, fixed_lines};
+ghost use Rattle.reply.specs.Lines.{Replied, further};
 
-use crate::line::{put_further_link, put_further_system, put_link, put_system};
-use model::{Group, Memory, Name, System};
-use print::{put_byte, put_decimal};
+use crate::line::{put_link, put_system};
+use model::Memory;
+use print::{put_byte, put_decimal, put_text};
 
 pub mod texts; // texts.rt: types, groups and own values as text
 pub mod line; // line.rt: the lines of the lists
@@ -25,10 +25,7 @@ pub mod relative; // relative.rt: KLT? A B
 fn slot(place: u8) -> usize
     ensures { result ≡ place - 1 }
 {
-    if place == 0 {
-        return 0;
-    }
-    place as usize - 1
+    place.saturating_sub(1) as usize
 }
 
 // ERR?
@@ -40,66 +37,62 @@ pub fn last_error(number: u8, reply: &mut [u8]) -> usize
     put_byte(reply, at, b'\n')
 }
 
-// The fixed systems' lines, the second and third in what is left of the buffer.
-fn put_fixed_systems(reply: &mut [u8], s: System) -> usize
-    requires { length (fixed_lines (system_line [])) ≤ length reply.old }
-    ensures { Wrote (fixed_lines (system_line [])) reply.old 0 reply.new result }
+// A further line of this text.
+fn put_further(part: &mut [u8], text: &[u8]) -> usize
+    requires { length (further text.now) ≤ length part.old }
+    ensures { Wrote (further text.now) part.old 0 part.new result }
 {
-    let a = put_system(reply, 0, Group::Operating, 0, s);
-    let b = put_further_system(&mut reply[a..], Group::Orientational, 0, s);
-    let i = a + b;
-    let c = put_further_system(&mut reply[i..], Group::Levelling, 0, s);
-    i + c
+    let a = put_text(part, 0, b" \n");
+    put_text(part, a, text)
+}
+
+// The fixed systems' lines, the second and third in what is left of the buffer.
+fn put_fixed(reply: &mut [u8], a: &[u8], b: &[u8], c: &[u8]) -> usize
+    requires { length (a.now ++ (further b.now ++ further c.now)) ≤ length reply.old }
+    ensures { Wrote (a.now ++ (further b.now ++ further c.now)) reply.old 0 reply.new result }
+{
+    let i = put_text(reply, 0, a);
+    let j = i + put_further(&mut reply[i..], b);
+    j + put_further(&mut reply[j..], c)
 }
 
 // KLS?
 pub fn systems(m: Memory, reply: &mut [u8]) -> usize
     requires fine_memory { FineMemory m }
-    requires buffer_limit_in_bounds { buffer_limit ≤ length reply.old }
+    requires room { buffer_limit ≤ length reply.old }
     ensures { Replied (listed (memory_of m) systems_all) reply.old reply.new result }
 {
-    let count = m.count as usize;
-    let first = m.systems[0];
-    let mut at = put_fixed_systems(reply, first);
-    let mut i = 0;
-    while i < count {
-        let s = m.systems[i];
-        let n = put_further_system(&mut reply[at..], Group::Operating, i + 1, s);
-        at += n;
-        i += 1;
+    let mut at = put_fixed(
+        reply,
+        b"Name=ZERO Type=ZERO X=0.000000 Y=0.000000 Z=0.000000 U=0.000000 V=0.000000 W=0.000000",
+        b"Name=PI_BASE Type=KSB(PI) X=0.000000 Y=0.000000 Z=0.000000 U=0.000000 V=0.000000 W=0.000000",
+        b"Name=PI_LEVELLING Type=KLD(PI) X=0.000000 Y=0.000000 Z=0.000000 U=0.000000 V=0.000000 W=0.000000",
+    );
+    for s in &m.systems[..m.count as usize] {
+        let part = &mut reply[at..];
+        let a = put_text(part, 0, b" \n");
+        at += put_system(part, a, *s);
     }
     put_byte(reply, at, b'\n')
-}
-
-// The fixed systems' lines, the second and third in what is left of the buffer.
-fn put_fixed_links(reply: &mut [u8], s: System, pred: Name) -> usize
-    requires { length (fixed_lines (link_line [])) ≤ length reply.old }
-    ensures { Wrote (fixed_lines (link_line [])) reply.old 0 reply.new result }
-{
-    let a = put_link(reply, 0, Group::Operating, 0, s, pred);
-    let b = put_further_link(&mut reply[a..], Group::Orientational, 0, s, pred);
-    let i = a + b;
-    let c = put_further_link(&mut reply[i..], Group::Levelling, 0, s, pred);
-    i + c
 }
 
 // KLN?
 pub fn links(m: Memory, reply: &mut [u8]) -> usize
     requires fine_memory { FineMemory m }
-    requires buffer_limit_in_bounds { buffer_limit ≤ length reply.old }
+    requires room { buffer_limit ≤ length reply.old }
     ensures { Replied (listed (memory_of m) links) reply.old reply.new result }
 {
-    let count = m.count as usize;
-    let first = m.systems[0];
-    let mut at = put_fixed_links(reply, first, first.name);
-    let mut i = 0;
-    while i < count {
-        let s = m.systems[i];
-        let j = slot(s.pred);
-        let p = m.systems[j];
-        let n = put_further_link(&mut reply[at..], Group::Operating, i + 1, s, p.name);
-        at += n;
-        i += 1;
+    let mut at = put_fixed(
+        reply,
+        b"ZERO=ZERO",
+        b"PI_BASE=HEXAPOD",
+        b"PI_LEVELLING=HEXAPOD",
+    );
+    for s in &m.systems[..m.count as usize] {
+        let pred = m.systems[slot(s.pred)];
+        let part = &mut reply[at..];
+        let a = put_text(part, 0, b" \n");
+        at += put_link(part, a, *s, pred.name);
     }
     put_byte(reply, at, b'\n')
 }

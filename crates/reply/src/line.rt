@@ -1,19 +1,20 @@
-// The lines of the lists. A further line ends the line before it, and is written from the front of the part that it is lent. Place 0 is the fixed
-// system of the group g, whose text is constant, and s is not looked at; any other place is the user system s, and then g is not.
-ghost use Rattle.std.specs.Prelude.{◌≡◌, true, [], ◌+◌, ◌≤◌, ◌<◌, length};
+// The lines of the lists. Where there is a place, 0 is the fixed system of the group g, whose text is constant, and s is not looked at; any other place is
+// the user system s, and then g is not.
+ghost use Rattle.std.specs.Prelude.{◌+◌, ◌≤◌, ◌<◌, length};
 ghost use Rattle.model.specs.Limits.{name_limit};
-ghost use Rattle.model.specs.Kinds.{of_group};
-ghost use Rattle.model.specs.Memory.{fixed_ref};
-ghost use Rattle.model.specs.WellFormed.{turns_fine};
+ghost use Rattle.model.specs.Pose.{shown};
 ghost use Rattle.model.specs.Stored.{bytes_of, system_of};
-ghost use Rattle.model.specs.Reply.{system_line, link_line};
 ghost use Rattle.pose.specs.Poses.{Within, reach};
 ghost use Rattle.print.specs.Over.{Wrote};
-ghost use Rattle.reply.specs.Lines.{Writable, system_text, name_text, pred_text, link_text, enabled_text, pose_text, resultant_text, further, at_fixed};
+ghost use Rattle.chains.specs.Walk.{walk_of};
+ghost use Rattle.reply.specs.Lines.{Writable, system_text, name_text, pred_text, link_text, enabled_text, pose_text};
+ghost use Rattle.reply.specs.Reached.{Reachable, reached_text};
 
 use crate::texts::{put_by_group, put_end, put_fixed_name, put_kind, put_six_values};
+use chains::frames::Reached;
 use facts::kinds::group_of;
-use model::{Group, Name, System, Turns, Vec3};
+use model::{Group, Name, System};
+use pose::rotation::shown_of;
 use print::{put_decimal, put_name, put_text};
 
 // ---- names
@@ -31,41 +32,15 @@ pub fn put_system_name(out: &mut [u8], at: usize, g: Group, place: u8, name: Nam
 
 // ---- KLS?
 
-fn put_user_system(out: &mut [u8], at: usize, s: System) -> usize
+pub fn put_system(out: &mut [u8], at: usize, s: System) -> usize
     requires { Writable s × (at + length (system_text (system_of s)) ≤ length out.old) }
     ensures { Wrote (system_text (system_of s)) out.old at out.new result }
 {
     let a = put_text(out, at, b"Name=");
     let b = put_name(out, a, s.name);
     let c = put_text(out, b, b" Type=");
-    let kind = s.kind;
-    let d = put_kind(out, c, kind);
+    let d = put_kind(out, c, s.kind);
     put_six_values(out, d, s.offset, s.turns)
-}
-
-pub fn put_system(out: &mut [u8], at: usize, g: Group, place: usize, s: System) -> usize
-    requires { (0 < place → Writable s) × (at + length (at_fixed place (system_line [] (fixed_ref g)) (system_text (system_of s))) ≤ length out.old) }
-    ensures { Wrote (at_fixed place (system_line [] (fixed_ref g)) (system_text (system_of s))) out.old at out.new result }
-{
-    if place == 0 {
-        return put_by_group(
-            out,
-            at,
-            g,
-            b"Name=ZERO Type=ZERO X=0.000000 Y=0.000000 Z=0.000000 U=0.000000 V=0.000000 W=0.000000",
-            b"Name=PI_BASE Type=KSB(PI) X=0.000000 Y=0.000000 Z=0.000000 U=0.000000 V=0.000000 W=0.000000",
-            b"Name=PI_LEVELLING Type=KLD(PI) X=0.000000 Y=0.000000 Z=0.000000 U=0.000000 V=0.000000 W=0.000000",
-        );
-    }
-    put_user_system(out, at, s)
-}
-
-pub fn put_further_system(part: &mut [u8], g: Group, place: usize, s: System) -> usize
-    requires { (0 < place → Writable s) × (length (further (at_fixed place (system_line [] (fixed_ref g)) (system_text (system_of s)))) ≤ length part.old) }
-    ensures { Wrote (further (at_fixed place (system_line [] (fixed_ref g)) (system_text (system_of s)))) part.old 0 part.new result }
-{
-    let a = put_text(part, 0, b" \n");
-    put_system(part, a, g, place, s)
 }
 
 // ---- KLN?
@@ -75,42 +50,16 @@ fn put_pred(out: &mut [u8], at: usize, s: System, pred: Name) -> usize
     requires { (pred.len ≤ name_limit) × (at + length (pred_text (system_of s) (bytes_of pred)) ≤ length out.old) }
     ensures { Wrote (pred_text (system_of s) (bytes_of pred)) out.old at out.new result }
 {
-    let kind = s.kind;
-    put_system_name(out, at, group_of(kind), s.pred, pred)
+    put_system_name(out, at, group_of(s.kind), s.pred, pred)
 }
 
-fn put_user_link(out: &mut [u8], at: usize, s: System, pred: Name) -> usize
+pub fn put_link(out: &mut [u8], at: usize, s: System, pred: Name) -> usize
     requires { (s.name.len ≤ name_limit) × (pred.len ≤ name_limit) × (at + length (link_text (system_of s) (bytes_of pred)) ≤ length out.old) }
     ensures { Wrote (link_text (system_of s) (bytes_of pred)) out.old at out.new result }
 {
     let a = put_name(out, at, s.name);
     let b = put_text(out, a, b"=");
     put_pred(out, b, s, pred)
-}
-
-pub fn put_link(out: &mut [u8], at: usize, g: Group, place: usize, s: System, pred: Name) -> usize
-    requires { (0 < place → (s.name.len ≤ name_limit) × (pred.len ≤ name_limit)) × (at + length (at_fixed place (link_line [] (fixed_ref g)) (link_text (system_of s) (bytes_of pred))) ≤ length out.old) }
-    ensures { Wrote (at_fixed place (link_line [] (fixed_ref g)) (link_text (system_of s) (bytes_of pred))) out.old at out.new result }
-{
-    if place == 0 {
-        return put_by_group(
-            out,
-            at,
-            g,
-            b"ZERO=ZERO",
-            b"PI_BASE=HEXAPOD",
-            b"PI_LEVELLING=HEXAPOD",
-        );
-    }
-    put_user_link(out, at, s, pred)
-}
-
-pub fn put_further_link(part: &mut [u8], g: Group, place: usize, s: System, pred: Name) -> usize
-    requires { (0 < place → (s.name.len ≤ name_limit) × (pred.len ≤ name_limit)) × (length (further (at_fixed place (link_line [] (fixed_ref g)) (link_text (system_of s) (bytes_of pred)))) ≤ length part.old) }
-    ensures { Wrote (further (at_fixed place (link_line [] (fixed_ref g)) (link_text (system_of s) (bytes_of pred)))) part.old 0 part.new result }
-{
-    let a = put_text(part, 0, b" \n");
-    put_link(part, a, g, place, s, pred)
 }
 
 // ---- KEN?
@@ -131,46 +80,29 @@ pub fn put_enabled(out: &mut [u8], at: usize, g: Group, place: u8, s: System) ->
     }
     let a = put_name(out, at, s.name);
     let b = put_text(out, a, b"=");
-    let kind = s.kind;
-    put_kind(out, b, kind)
-}
-
-pub fn put_further_enabled(part: &mut [u8], g: Group, place: u8, s: System) -> usize
-    requires { (0 < place → s.name.len ≤ name_limit) × (length (further (enabled_text g place (system_of s))) ≤ length part.old) }
-    ensures { Wrote (further (enabled_text g place (system_of s))) part.old 0 part.new result }
-{
-    let a = put_text(part, 0, b" \n");
-    put_enabled(part, a, g, place, s)
+    put_kind(out, b, s.kind)
 }
 
 // ---- KLT?
 
-// A pose by its offset and shown triple, and steps.
-pub fn put_pose(out: &mut [u8], at: usize, t: Vec3, shown: Turns, steps: u8) -> usize
-    requires { Within reach t × (turns_fine shown ≡ true) × (at + length (pose_text t shown steps) ≤ length out.old) }
-    ensures { Wrote (pose_text t shown steps) out.old at out.new result }
+// The pose that a walk reached, as it is shown, and the walk's steps.
+pub fn put_pose(out: &mut [u8], at: usize, r: Reached) -> usize
+    requires { Within reach r.at × (at + length (pose_text r.at (shown (walk_of r).pose.rot) r.steps) ≤ length out.old) }
+    ensures { Wrote (pose_text r.at (shown (walk_of r).pose.rot) r.steps) out.old at out.new result }
 {
-    let a = put_six_values(out, at, t, shown);
+    let a = put_six_values(out, at, r.at, shown_of(r.rot));
     let b = put_text(out, a, b" Steps=");
-    put_decimal(out, b, steps as u64)
+    put_decimal(out, b, r.steps as u64)
 }
 
-// The line of a user system, with the end of its chain.
-pub fn put_resultant(
-    out: &mut [u8],
-    at: usize,
-    name: Name,
-    g: Group,
-    t: Vec3,
-    shown: Turns,
-    steps: u8,
-) -> usize
-    requires { (name.len ≤ name_limit) × Within reach t × (turns_fine shown ≡ true) × (at + length (resultant_text (bytes_of name) (of_group g).end t shown steps) ≤ length out.old) }
-    ensures { Wrote (resultant_text (bytes_of name) (of_group g).end t shown steps) out.old at out.new result }
+// The line of a user system and what its walk reached, with the end of its chain.
+pub fn put_resultant(out: &mut [u8], at: usize, name: Name, g: Group, r: Reached) -> usize
+    requires { Reachable name r × (at + length (reached_text (bytes_of name) g (walk_of r)) ≤ length out.old) }
+    ensures { Wrote (reached_text (bytes_of name) g (walk_of r)) out.old at out.new result }
 {
     let a = put_text(out, at, b"Name=");
     let b = put_name(out, a, name);
     let c = put_text(out, b, b" EndCoordinateSystem=");
     let d = put_end(out, c, g);
-    put_pose(out, d, t, shown, steps)
+    put_pose(out, d, r)
 }

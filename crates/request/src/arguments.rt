@@ -10,9 +10,10 @@ ghost use Rattle.request.specs.Forms.{read_as};
 use super::command::Form;
 use super::{Asked, Request};
 use facts::names::no_name;
+use facts::refusals::Refusal;
 use model::{Kind, Name, Turns, Vec3};
 use text::names::read_name;
-use text::pairs::{Pairs, read_pairs};
+use text::pairs::read_pairs;
 use text::words::{is_word, next_word};
 
 fn ask(asked: Asked, first: Name, second: Name) -> Request
@@ -38,8 +39,7 @@ fn ended(line: &[u8], at: usize) -> bool
     requires { at ≤ length line.now }
     ensures { result ≡ none? (words_from line.now at) }
 {
-    let w = next_word(line, at);
-    w.start == w.end
+    next_word(line, at).is_empty()
 }
 
 // Whether just this word is left.
@@ -48,65 +48,48 @@ fn only_word(line: &[u8], at: usize, text: &[u8]) -> bool
     ensures { result ≡ same_words (text.now ∷ []) (words_from line.now at) }
 {
     let w = next_word(line, at);
-    if !is_word(line, w, text) {
-        return false;
-    }
-    let end = w.end;
-    ended(line, end)
+    is_word(line, w, text) && ended(line, w.end)
 }
 
-fn one_name(line: &[u8], at: usize, asked: Asked) -> Request
+fn one_name(line: &[u8], at: usize, asked: Asked) -> Result<Request, Refusal>
     requires { at ≤ length line.now }
     ensures { Says result (one_name (λ a. named asked a []) (words_from line.now at)) }
 {
     let w = next_word(line, at);
-    let a = read_name(line, w);
-    if !a.ok {
-        return plain(Asked::Malformed);
+    let first = read_name(line, w)?;
+    if !ended(line, w.end) {
+        return Err(Refusal::Malformed);
     }
-    let end = w.end;
-    if !ended(line, end) {
-        return plain(Asked::Malformed);
-    }
-    let first = a.name;
-    ask(asked, first, no_name())
+    Ok(ask(asked, first, no_name()))
 }
 
-fn two_names(line: &[u8], at: usize, asked: Asked) -> Request
+fn two_names(line: &[u8], at: usize, asked: Asked) -> Result<Request, Refusal>
     requires { at ≤ length line.now }
     ensures { Says result (two_names (named asked) (words_from line.now at)) }
 {
     let v = next_word(line, at);
-    let a = read_name(line, v);
-    if !a.ok {
-        return plain(Asked::Malformed);
-    }
-    let middle = v.end;
-    let w = next_word(line, middle);
-    let b = read_name(line, w);
-    if !b.ok {
-        return plain(Asked::Malformed);
-    }
+    let first = read_name(line, v)?;
+    let w = next_word(line, v.end);
+    let second = read_name(line, w)?;
     let last = w.end;
     if !ended(line, last) {
-        return plain(Asked::Malformed);
+        return Err(Refusal::Malformed);
     }
-    let first = a.name;
-    let second = b.name;
-    ask(asked, first, second)
+    Ok(ask(asked, first, second))
 }
 
-// What is asked, if the words are those that it needs.
-fn if_fine(fine: bool, asked: Asked) -> Request
+// What is asked, if the words are those that it needs. (`then_some` and `ok_or` say no more.)
+fn if_fine(fine: bool, asked: Asked) -> Result<Request, Refusal>
     ensures { Says result (cond fine (named asked [] []) malformed) }
 {
     if fine {
-        return plain(asked);
+        Ok(plain(asked))
+    } else {
+        Err(Refusal::Malformed)
     }
-    plain(Asked::Malformed)
 }
 
-fn level(line: &[u8], at: usize) -> Request
+fn level(line: &[u8], at: usize) -> Result<Request, Refusal>
     requires { at ≤ length line.now }
     ensures { Says result (level_words (words_from line.now at)) }
 {
@@ -118,61 +101,47 @@ fn level(line: &[u8], at: usize) -> Request
     if is_word(line, w, b"1") {
         return if_fine(only_word(line, end, b"ADVANCED"), Asked::SetLevel(1));
     }
-    plain(Asked::Malformed)
+    Err(Refusal::Malformed)
 }
 
 // By how many words there are: none, one, or more.
-fn resultants(line: &[u8], at: usize) -> Request
+fn resultants(line: &[u8], at: usize) -> Result<Request, Refusal>
     requires { at ≤ length line.now }
     ensures { Says result (resultant_words (words_from line.now at)) }
 {
     let w = next_word(line, at);
-    let end = w.end;
-    if w.start == end {
-        return plain(Asked::ListResultants);
+    if w.is_empty() {
+        return Ok(plain(Asked::ListResultants));
     }
-    if ended(line, end) {
+    if ended(line, w.end) {
         return one_name(line, at, Asked::ListResultant);
     }
     two_names(line, at, Asked::ListRelative)
 }
 
 // A name, then axis pairs: 5 for the form of the whole line before 6 for a value.
-fn defining(line: &[u8], at: usize, kind: Kind) -> Request
+fn defining(line: &[u8], at: usize, kind: Kind) -> Result<Request, Refusal>
     requires { at ≤ length line.now }
     ensures { Says result (definition kind (words_from line.now at)) }
 {
     let w = next_word(line, at);
-    let a = read_name(line, w);
-    if !a.ok {
-        return plain(Asked::Malformed);
-    }
-    let end = w.end;
-    let p = read_pairs(line, end, kind);
-    let first = a.name;
-    match p {
-        Pairs::Malformed => plain(Asked::Malformed),
-        Pairs::Beyond => plain(Asked::Beyond),
-        Pairs::Kept(offset, turns) => {
-            let second = no_name();
-            Request {
-                asked: Asked::Define(kind),
-                first,
-                second,
-                offset,
-                turns,
-            }
-        }
-    }
+    let first = read_name(line, w)?;
+    let (offset, turns) = read_pairs(line, w.end, kind)?;
+    Ok(Request {
+        asked: Asked::Define(kind),
+        first,
+        second: no_name(),
+        offset,
+        turns,
+    })
 }
 
 // The words from a place on, in a command's form.
-pub fn arguments(line: &[u8], at: usize, form: Form) -> Request
+pub fn arguments(line: &[u8], at: usize, form: Form) -> Result<Request, Refusal>
     requires { at ≤ length line.now }
     ensures { Says result (read_as form (words_from line.now at)) }
 {
     match form {
-        Form::NoCommand => plain(Asked::Unknown),
         Form::Definition(kind) => defining(line, at, kind),
         Form::OneName(asked) => one_name(line, at, asked),
         Form::TwoNames(asked) => two_names(line, at, asked),

@@ -2,7 +2,7 @@
 ghost use Rattle.std.specs.Prelude.{◌≡◌, List, ◌++◌, ℕ};
 ghost use Rattle.model.specs.Request.{read_by, edits, settings, queries, commands};
 ghost use Rattle.text.specs.Cursor.{word_of, Within};
-ghost use Rattle.request.specs.Forms.{read_as, three_letters};
+ghost use Rattle.request.specs.Forms.{asked_by, three_letters};
 
 use super::Asked;
 use model::Kind;
@@ -11,7 +11,6 @@ use text::words::{Word, is_word};
 // How arguments are read, and what is asked if they have that form.
 #[derive(Clone, Copy)]
 pub enum Form {
-    NoCommand,
     // a name and axis pairs
     Definition(Kind),
     OneName(Asked),
@@ -26,99 +25,99 @@ pub enum Form {
     Resultants,
 }
 
-// The words of four letters.
-fn query(line: &[u8], w: Word) -> Form
+// The words of four letters. (Tests in a row, here and below: a table of texts would be laid out on the stack at each call, docs/DECISIONS.md 5.)
+fn query(line: &[u8], w: Word) -> Option<Form>
     requires { Within line.now w }
-    ensures { (args : List (List ℕ)) → read_as result args ≡ read_by queries (word_of line.now w) args }
+    ensures { (args : List (List ℕ)) → asked_by result args ≡ read_by queries (word_of line.now w) args }
 {
     if is_word(line, w, b"KEN?") {
-        return Form::Alone(Asked::ListEnabled);
+        return Some(Form::Alone(Asked::ListEnabled));
     }
     if is_word(line, w, b"KLS?") {
-        return Form::Alone(Asked::ListSystems);
+        return Some(Form::Alone(Asked::ListSystems));
     }
     if is_word(line, w, b"KLN?") {
-        return Form::Alone(Asked::ListLinks);
+        return Some(Form::Alone(Asked::ListLinks));
     }
     if is_word(line, w, b"KLT?") {
-        return Form::Resultants;
+        return Some(Form::Resultants);
     }
     if is_word(line, w, b"ERR?") {
-        return Form::Alone(Asked::LastError);
+        return Some(Form::Alone(Asked::LastError));
     }
-    Form::NoCommand
+    None
 }
 
 // The level and the two memories.
-fn setting(line: &[u8], w: Word) -> Form
+fn setting(line: &[u8], w: Word) -> Option<Form>
     requires { Within line.now w }
-    ensures { (args : List (List ℕ)) → read_as result args ≡ read_by settings (word_of line.now w) args }
+    ensures { (args : List (List ℕ)) → asked_by result args ≡ read_by settings (word_of line.now w) args }
 {
     if is_word(line, w, b"CCL") {
-        return Form::Level;
+        return Some(Form::Level);
     }
     if is_word(line, w, b"WPA") {
-        return Form::Password(Asked::Save);
+        return Some(Form::Password(Asked::Save));
     }
     if is_word(line, w, b"RPA") {
-        return Form::Password(Asked::Restore);
+        return Some(Form::Password(Asked::Restore));
     }
     if is_word(line, w, b"DPA") {
-        return Form::Password(Asked::Reset);
+        return Some(Form::Password(Asked::Reset));
     }
-    Form::NoCommand
+    None
 }
 
 // Changes of systems that are there, and then the settings.
-fn edit(line: &[u8], w: Word) -> Form
+fn edit(line: &[u8], w: Word) -> Option<Form>
     requires { Within line.now w }
-    ensures { (args : List (List ℕ)) → read_as result args ≡ read_by (edits ++ settings) (word_of line.now w) args }
+    ensures { (args : List (List ℕ)) → asked_by result args ≡ read_by (edits ++ settings) (word_of line.now w) args }
 {
     if is_word(line, w, b"KLN") {
-        return Form::TwoNames(Asked::Link);
+        return Some(Form::TwoNames(Asked::Link));
     }
     if is_word(line, w, b"KCP") {
-        return Form::TwoNames(Asked::Copy);
+        return Some(Form::TwoNames(Asked::Copy));
     }
     if is_word(line, w, b"KRM") {
-        return Form::OneName(Asked::Remove);
+        return Some(Form::OneName(Asked::Remove));
     }
     if is_word(line, w, b"KEN") {
-        return Form::OneName(Asked::Enable);
+        return Some(Form::OneName(Asked::Enable));
     }
     setting(line, w)
 }
 
 // Definitions, and then the other words of three letters.
-fn definition(line: &[u8], w: Word) -> Form
+fn definition(line: &[u8], w: Word) -> Option<Form>
     requires { Within line.now w }
-    ensures { (args : List (List ℕ)) → read_as result args ≡ read_by three_letters (word_of line.now w) args }
+    ensures { (args : List (List ℕ)) → asked_by result args ≡ read_by three_letters (word_of line.now w) args }
 {
     if is_word(line, w, b"KSD") {
-        return Form::Definition(Kind::Ksd);
+        return Some(Form::Definition(Kind::Ksd));
     }
     if is_word(line, w, b"KST") {
-        return Form::Definition(Kind::Kst);
+        return Some(Form::Definition(Kind::Kst));
     }
     if is_word(line, w, b"KSW") {
-        return Form::Definition(Kind::Ksw);
+        return Some(Form::Definition(Kind::Ksw));
     }
     if is_word(line, w, b"KSB") {
-        return Form::Definition(Kind::Ksb);
+        return Some(Form::Definition(Kind::Ksb));
     }
     if is_word(line, w, b"KLD") {
-        return Form::Definition(Kind::Kld);
+        return Some(Form::Definition(Kind::Kld));
     }
     if is_word(line, w, b"KSF") {
-        return Form::OneName(Asked::Locate);
+        return Some(Form::OneName(Asked::Locate));
     }
     edit(line, w)
 }
 
 // By the word's length first: queries have four letters, all other commands three.
-pub fn form_of(line: &[u8], w: Word) -> Form
+pub fn form_of(line: &[u8], w: Word) -> Option<Form>
     requires { Within line.now w }
-    ensures { (args : List (List ℕ)) → read_as result args ≡ read_by commands (word_of line.now w) args }
+    ensures { (args : List (List ℕ)) → asked_by result args ≡ read_by commands (word_of line.now w) args }
 {
     let n = w.end - w.start;
     if n == 4 {
@@ -127,5 +126,5 @@ pub fn form_of(line: &[u8], w: Word) -> Form
     if n == 3 {
         return definition(line, w);
     }
-    Form::NoCommand
+    None
 }

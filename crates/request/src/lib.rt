@@ -10,15 +10,12 @@ ghost use Rattle.request.specs.Asked.{Says};
 
 use arguments::arguments;
 use command::form_of;
+use facts::refusals::Refusal;
 use model::{Kind, Name, Turns, Vec3};
 use text::words::next_word;
 
-// What is asked, or why nothing is: no command, arguments of another form, a value out of range.
 #[derive(Clone, Copy)]
 pub enum Asked {
-    Unknown,
-    Malformed,
-    Beyond,
     Define(Kind),
     // KSF: no pose is typed, since the stage's own is taken
     Locate,
@@ -49,12 +46,12 @@ pub struct Request {
     pub turns: Turns,
 }
 
-// The request of a line of any bytes, by one cursor from word to word.
-pub fn read(line: &[u8]) -> Request
+// The request of a line of any bytes, by one cursor from word to word. A line asks for nothing with no command, with arguments of another form, or with a
+// value out of range.
+pub fn read(line: &[u8]) -> Result<Request, Refusal>
     ensures { Says result (reading line.now) }
 {
     let w = next_word(line, 0);
-    let form = form_of(line, w);
-    let end = w.end;
-    arguments(line, end, form)
+    let form = form_of(line, w).ok_or(Refusal::Unknown)?;
+    arguments(line, w.end, form)
 }

@@ -13,11 +13,8 @@ pub fn unreadable(line: &[u8]) -> bool
         return true;
     }
     let mut fine = true;
-    let mut i = 0;
-    while i < line.len() {
-        let b = line[i];
-        fine = fine & ((32 <= b) & (b <= 126));
-        i += 1;
+    for &b in line {
+        fine &= (32 <= b) & (b <= 126);
     }
     !fine
 }

@@ -1,12 +1,19 @@
 -- Laws of the texts of answers, and of their lengths.
-use Rattle.std.proofs.Common.{◌≡◌, ℕ, ◌+◌, ◌*◌, ◌^◌, ◌<◌, ◌≤◌, Bool, true, false, cond, List, [], length, refl, append-nil, arith, length-append, ne_eqb}
-use native.Mathlib.Decide.{ℕ_discrete}
+use Rattle.std.proofs.Common.{◌≡◌, ℕ, ◌+◌, ◌*◌, ◌^◌, ◌<◌, ◌≤◌, Bool, true, false, cond, List, [], ◌∷◌, length, refl, ap, append-nil, arith, length-append}
+use Rattle.std.specs.Prelude.{Result, Ok, Err}
+use Rattle.std.specs.Result.{result_unwrap_or}
+use Rattle.std.specs.Int.{from_bool}
 use Rattle.model.specs.Ascii.{ascii}
 use Rattle.model.specs.Lists.{joined}
 use Rattle.model.specs.Reply.{decimal}
-use Rattle.model.specs.Machine.{Usage}
+use Rattle.facts.specs.declared.refusals.Refusal.{Refusal}
+use Rattle.facts.specs.declared.refusals.Refusal.TheVariants.{IllFormed, Short, Unreadable, Unknown, Malformed, Beyond, Absent, Reserved, Locked, OtherType, InUse, Ring, Full, NoImage, Aslant, Needed}
+use Rattle.facts.specs.Refusals.{outcome}
+use Rattle.chains.specs.declared.links.Search.{Search}
+use Rattle.engine.specs.Answers.{written_by}
+use Rattle.machine.specs.Calls.{usage_of}
 use Rattle.model.proofs.Digits.{decimal_short}
-use Rattle.script.specs.Answer.{head, said, usage_text, complaint, beside, longest_answer}
+use Rattle.script.specs.Answer.{head, said, usage_text, complaint, beside}
 use Rattle.script.specs.Hex.{hexed}
 use Rattle.script.proofs.HexLaws.{length_hexed}
 
@@ -15,32 +22,55 @@ unfolding said joined
 length_said n t = simp (length-append, append-nil) (omega arith)
 
 -- a number is a byte
+pub head_short : (n : ℕ) → n < 256 → length (head n) ≤ 4
+head_short n h = omega (arith, length-append (decimal n) (ascii " "), decimal_short 3 n (omega arith) (omega arith))
+
 said_few : (n : ℕ) (t : List ℕ) → n < 256 → length (said n t) ≤ length t + beside
-said_few n t h = omega (arith, length_said n t, length-append (decimal n) (ascii " "), decimal_short 3 n (omega arith) (omega arith))
+said_few n t h = omega (arith, length_said n t, head_short n h)
 
 pub said_short : (n : ℕ) (t : List ℕ) → n < 256 → length (said n (hexed t)) ≤ 2 * length t + beside
 said_short n t h = omega (arith, said_few n (hexed t) h, length_hexed t)
 
--- what is refused tells nothing
-pub no_usage : (a : Usage) → (a.number ≡ 0 → ⊥) → usage_text a ≡ []
-unfolding usage_text
-no_usage a n = rw (ne_eqb a.number 0 n)
+-- a call's reply, by std's word
+pub written_is : (o : Result ℕ Refusal) → result_unwrap_or o 0 ≡ written_by o
+written_is (Ok n) = refl
+written_is (Err why) = refl
 
--- a count has 64 bits
-pub length_usage : (a : Usage) → a.number ≡ 0 → length (usage_text a) ≡ length (decimal a.looked) + 2
-unfolding usage_text joined
-length_usage a e = rw e (simp (length-append, append-nil) (omega (arith, flag a.used)))
+-- ---- the question of use
+
+pub usage_number : (r : Result Search Refusal) → (usage_of r).number ≡ outcome r
+usage_number (Ok s) = refl
+usage_number (Err why) = refl
+
+-- what is refused tells nothing
+pub usage_refused : (why : Refusal) → usage_text (usage_of (Err why)) ≡ []
+unfolding usage_text
+usage_refused IllFormed = refl
+usage_refused Short = refl
+usage_refused Unreadable = refl
+usage_refused Unknown = refl
+usage_refused Malformed = refl
+usage_refused Beyond = refl
+usage_refused Absent = refl
+usage_refused Reserved = refl
+usage_refused Locked = refl
+usage_refused OtherType = refl
+usage_refused InUse = refl
+usage_refused Ring = refl
+usage_refused Full = refl
+usage_refused NoImage = refl
+usage_refused Aslant = refl
+usage_refused Needed = refl
+
+pub usage_told : (s : Search) → usage_text (usage_of (Ok s)) ≡ joined (((48 + from_bool s.found) ∷ []) ∷ ascii " " ∷ decimal s.looked ∷ [])
+unfolding usage_text
+usage_told s = ap (λ (f : List ℕ). joined (f ∷ ascii " " ∷ decimal s.looked ∷ [])) (flag s.found)
   where
-    flag : (b : Bool) → length (cond b (ascii "1") (ascii "0")) ≡ 1
+    flag : (b : Bool) → cond b (ascii "1") (ascii "0") ≡ (48 + from_bool b) ∷ []
     flag true = refl
     flag false = refl
 
-pub told_short : (a : Usage) → a.number < 256 → a.looked < 2 ^ 64 → length (said a.number (usage_text a)) ≤ longest_answer
-told_short a h k = omega (arith, said_few a.number (usage_text a) h, few (ℕ_discrete a.number 0))
-  where
-    few : Dec (a.number ≡ 0) → length (usage_text a) ≤ 22
-    few (yes e) = omega (arith, length_usage a e, decimal_short 20 a.looked (omega arith) (omega arith))
-    few (no e) = rw (no_usage a e) (omega arith)
+-- ---- no directive
 
 pub length_complaint : (n : ℕ) → length (complaint n) ≡ length (decimal n) + 3
 unfolding complaint joined

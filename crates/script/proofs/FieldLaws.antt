@@ -1,8 +1,9 @@
 -- The cursor's words are the fields of a line.
-use Rattle.std.proofs.Common.{◌≡◌, ℕ, suc, ◌+◌, ◌-◌, ◌<◌, ◌≤◌, Bool, true, false, not, eqb, List, [], ◌∷◌, length, get_or, take, drop, refl, ap, ◌∙◌, arith, length-drop, length-take, length-take-le, drop-drop, le-leb}
-use borrow.Author.Tests.{lt-leb}
+use Rattle.std.proofs.Common.{◌≡◌, ℕ, suc, ◌+◌, ◌-◌, ◌<◌, ◌≤◌, Bool, true, false, not, eqb, List, [], ◌∷◌, length, get_or, take, drop, sym, refl, ap, ◌∙◌, arith, length-drop, length-take, length-take-le, drop-drop, le-leb, eq-eqb, ne_eqb}
+use Rattle.std.specs.Prelude.{Option, None}
+use borrow.Author.Tests.{lt-leb, eqb-true}
 use Rattle.model.specs.Lists.{kept, none?, pieces, ahead, same}
-use Rattle.model.proofs.Basics.{and_true}
+use Rattle.model.proofs.Basics.{true_false, and_false}
 use Rattle.print.specs.Over.{over}
 use Rattle.text.specs.declared.words.Word.{Word}
 use Rattle.text.specs.Cursor.{lead, blanks, run, next_word}
@@ -10,7 +11,6 @@ use Rattle.text.proofs.WordLaws.{lead_le}
 use Rattle.script.specs.Fields.{fields, fields_from, bytes_at}
 use Rattle.script.specs.Hex.{pairs_read}
 use Rattle.script.specs.declared.parse.Directive.{Directive}
-use Rattle.script.specs.declared.parse.Directive.TheVariants.{Malformed}
 use Rattle.script.specs.Directive.{longest_line, unclear, understood, order, hex_field, hex_of, Understood}
 
 -- ---- fields, and the runs of a text
@@ -77,14 +77,16 @@ module _ (text : List ℕ) (at : ℕ) (w : Word) (e : w ≡ next_word text at) w
   to_start = drop-drop (blanks (drop at text)) at text
 
   -- none is left
-  pub no_field : w.start ≡ w.end → fields_from text at ≡ []
-  no_field h =
+  pub no_field : eqb w.start w.end ≡ true → fields_from text at ≡ []
+  no_field t =
+      let h = eqb-true w.start w.end t in
       let z : run (drop start text) ≡ 0 = omega (arith, ap (λ (v : Word). v.start) e, ap (λ (v : Word). v.end) e) in
       (led (drop at text)).none (ap run to_start ∙ z)
 
   -- the field f, and those behind it
-  pub a_field : {f : List ℕ} → (w.start ≡ w.end → ⊥) → f ≡ bytes_at text w → fields_from text at ≡ f ∷ fields_from text w.end
-  a_field h p =
+  pub a_field : {f : List ℕ} → eqb w.start w.end ≡ false → f ≡ bytes_at text w → fields_from text at ≡ f ∷ fields_from text w.end
+  a_field t p =
+      let h : w.start ≡ w.end → ⊥ = λ q. true_false (sym (eq-eqb w.start w.end q) ∙ t) in
       let s = start in
       let r = run (drop s text) in
       let z : s + r - s ≡ r = omega arith in
@@ -95,27 +97,39 @@ module _ (text : List ℕ) (at : ℕ) (w : Word) (e : w ≡ next_word text at) w
 pub bytes_short : (text : List ℕ) (w : Word) → length (bytes_at text w) ≤ length text
 bytes_short text w = simp (length-take, length-drop) (omega arith)
 
+-- ---- a word of one byte
+
+pub a_letter : (w : List ℕ) (b : ℕ) → length w ≡ 1 → get_or w 0 0 ≡ b → w ≡ b ∷ []
+a_letter [] b h e = absurd (omega arith)
+a_letter (x ∷ []) b h e = ap (λ (y : ℕ). y ∷ []) e
+a_letter (x ∷ y ∷ l) b h e = absurd (omega arith)
+
+abbrev pub Other : List ℕ → ℕ → Type 0
+Other w b = length w ≡ 1 → get_or w 0 0 ≡ b → ⊥
+
+pub no_letter : (w : List ℕ) (b : ℕ) → Other w b → same w (b ∷ []) ≡ false
+unfolding same
+no_letter [] b h = refl
+no_letter (x ∷ []) b h = rw (ne_eqb x b (λ e. h refl e))
+no_letter (x ∷ y ∷ l) b h = and_false (eqb x b)
+
+pub one_letter : (w : List ℕ) (b : ℕ) → length w ≡ 1 → get_or w 0 0 ≡ b → same w (b ∷ []) ≡ true
+unfolding same
+one_letter w b h e = rw (a_letter w b h e, eq-eqb b b refl)
+
 -- ---- a whole line
 
 -- nothing is ordered, and nothing decoded
-pub nothing : (b : List ℕ) → Understood unclear [] b Malformed b
+pub nothing : (b : List ℕ) → Understood unclear [] b None b
 unfolding pairs_read over
 nothing b = record { order = refl; bytes = refl; bounded = tt }
 
-pub too_long : (text b : List ℕ) → longest_line < length text → Understood (order text) (hex_of text) b Malformed b
+pub too_long : (text b : List ℕ) → longest_line < length text → Understood (order text) (hex_of text) b None b
 unfolding order hex_of
 too_long text b h = let e = lt-leb (length text) longest_line h in rw e (nothing b)
 
 -- what the fields say, the line says
-pub by_fields : (text : List ℕ) {before after : List ℕ} {fs : List (List ℕ)} {r : Directive} → length text ≤ longest_line → fields text ≡ fs →
+pub by_fields : (text : List ℕ) {before after : List ℕ} {fs : List (List ℕ)} {r : Option Directive} → length text ≤ longest_line → fields text ≡ fs →
     Understood (understood fs) (hex_field fs) before r after → Understood (order text) (hex_of text) before r after
 unfolding order hex_of
 by_fields text h e u = rw (le-leb (length text) longest_line h, e) u
-
--- ---- a word of one byte
-
-pub same_one : (w : List ℕ) (b : ℕ) → length w ≡ 1 → same w (b ∷ []) ≡ eqb (get_or w 0 0) b
-unfolding same
-same_one [] b h = absurd (omega arith)
-same_one (x ∷ []) b h = and_true (eqb x b)
-same_one (x ∷ y ∷ l) b h = absurd (omega arith)

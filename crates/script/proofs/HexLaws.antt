@@ -1,102 +1,102 @@
 -- Laws of pairs of digits, read and written.
-use Rattle.std.proofs.Common.{◌≡◌, ℕ, suc, ◌+◌, ◌*◌, ◌/◌, ◌%◌, ◌<◌, ◌≤◌, Bool, true, false, cond, ◌&&◌, eqb, List, [], ◌∷◌, length, get_or, drop, set, sym, refl, ap, ◌∙◌, add-one, arith, drop_of_length-le, drop-cons, le-ltb, lt-ltb, eq-eqb, ne_eqb}
+use Rattle.std.proofs.Common.{◌≡◌, ℕ, suc, ◌+◌, ◌*◌, ◌/◌, ◌%◌, ◌<◌, ◌≤◌, Bool, true, false, cond, ◌&&◌, List, [], ◌∷◌, length, get_or, drop, set, sym, refl, ap, ◌∙◌, add-one, arith, drop_of_length-le, drop-cons, length-set, lt-ltb, ltb-true}
+use Rattle.std.specs.Prelude.{Option, Some, None, IfSome, SomeIff}
+use Rattle.std.specs.Char as char
+use Rattle.std.proofs.lemmas.List.{nil_from_length}
+use Rattle.std.proofs.lemmas.Bool.Decides.{nat_tests}
 use mathlib.Core.Option.{none, some}
-use native.Mathlib.Decide.{ℕ_discrete}
-use Rattle.model.proofs.Basics.{and_join, and_false}
 use Rattle.print.specs.Over.{over}
 use Rattle.print.proofs.Laws.{length_over, over_first}
-use Rattle.script.specs.declared.hex.Decoded.{Decoded}
-use Rattle.script.specs.Directive.{bytes_told}
-use Rattle.script.specs.Hex.{digit_value, digit?, pair_value, hex?, pairs_read, unhexed, Decodes, glyph, hexed}
+use Rattle.script.specs.Told.{told_first}
+use Rattle.script.specs.Hex.{digit_value, digit?, digit_read, pair_value, hex?, pairs_read, unhexed, Decodes, glyph, hexed}
 
--- ---- two bytes at a place
+-- ---- a digit
 
-module _ (l : List ℕ) (k : ℕ) where
-  two : k + 1 < length l → drop k l ≡ get_or l k 0 ∷ get_or l (k + 1) 0 ∷ drop (k + 2) l
-  two h =
-      let e : k + 2 ≡ suc (suc k) = omega arith in
-      rw (add-one k, e) (drop-cons l k 0 (omega arith) ∙ ap (λ (t : List ℕ). get_or l k 0 ∷ t) (drop-cons l (suc k) 0 (omega arith)))
+-- what std counts a digit for, up to 16
+digits_same : (b : ℕ) → (char.digit_value b < 16 → digit_value b ≡ char.digit_value b) × (16 ≤ char.digit_value b → digit_value b ≡ 16)
+unfolding digit_value
+digits_same b = (λ h. grind (arith, nat_tests), λ h. grind (arith, nat_tests))
 
-  abbrev pub pair? : Bool
-  pair? = digit? (get_or l k 0) && digit? (get_or l (k + 1) 0)
+pub digit_from_char : (b : ℕ) (r : Option ℕ) → SomeIff r (char.digit_value b < 16) (char.digit_value b) → r ≡ digit_read b
+digit_from_char b None h =
+    let e : digit_value b ≡ 16 = (digits_same b).1 (omega (arith, h)) in
+    rw e
+digit_from_char b (Some d) h =
+    let e : digit_value b ≡ d = (digits_same b).0 h.0 ∙ sym h.1 in
+    let g : digit_value b < 16 = omega (arith, h.0, h.1) in
+    rw (lt-ltb (digit_value b) 16 g) (ap Some (sym e))
 
-  pairs_next : k + 1 < length l → pair? ≡ true → pairs_read (drop k l) ≡ pair_value (get_or l k 0) (get_or l (k + 1) 0) ∷ pairs_read (drop (k + 2) l)
-  unfolding pairs_read
-  pairs_next h t = ap pairs_read (two h) ∙ rw t
+-- what was read of a digit, or not
+pub a_digit : (b d : ℕ) → Some d ≡ digit_read b → (digit? b ≡ true) × (d ≡ digit_value b) × (d < 16)
+a_digit b d = pick (digit? b) refl
+  where
+    pick : (t : Bool) → digit? b ≡ t → Some d ≡ cond t (Some (digit_value b)) None → (digit? b ≡ true) × (d ≡ digit_value b) × (d < 16)
+    pick true e q = let v : d ≡ digit_value b = cc in (e, v, omega (arith, ltb-true (digit_value b) 16 e))
+    pick false e q = cc
 
-  pairs_stop : k + 1 < length l → pair? ≡ false → pairs_read (drop k l) ≡ []
-  unfolding pairs_read
-  pairs_stop h t = ap pairs_read (two h) ∙ rw t
+pub no_digit : (b : ℕ) → None ≡ digit_read b → digit? b ≡ false
+no_digit b = pick (digit? b)
+  where
+    pick : (t : Bool) → None ≡ cond t (Some (digit_value b)) None → t ≡ false
+    pick true q = cc
+    pick false q = refl
 
-  hex_next : k + 1 < length l → pair? ≡ true → hex? (drop k l) ≡ hex? (drop (k + 2) l)
-  unfolding hex?
-  hex_next h t = ap hex? (two h) ∙ rw t
+-- ---- a loop that reads: the rest equals the whole
 
-  hex_stop : k + 1 < length l → pair? ≡ false → hex? (drop k l) ≡ false
-  unfolding hex?
-  hex_stop h t = ap hex? (two h) ∙ rw t
+pub record Left (h before rest : List ℕ) (i : ℕ) (out : List ℕ) : Type 0 where
+  pub hex : hex? h ≡ hex? rest
+  pub bytes : over before 0 (pairs_read h) ≡ over out i (pairs_read rest)
+  pub count : length (pairs_read h) ≡ i + length (pairs_read rest)
+  pub long : 2 * i + length rest ≡ length h
+  pub room : length out ≡ length before
 
-  -- one byte is left, or none
-  one : k < length l → length l ≤ k + 1 → drop k l ≡ get_or l k 0 ∷ []
-  one h g = drop-cons l k 0 h ∙ ap (λ (t : List ℕ). get_or l k 0 ∷ t) (drop_of_length-le l {i = suc k} (omega arith))
+pub left_start : (h before : List ℕ) → Left h before h 0 before
+left_start h before = record { hex = refl; bytes = refl; count = omega arith; long = omega arith; room = refl }
 
-  ended : k ≤ length l → length l ≤ k + 1 → (pairs_read (drop k l) ≡ []) × (hex? (drop k l) ≡ eqb k (length l))
-  unfolding pairs_read hex?
-  ended h g =
-      elim (ℕ_discrete k (length l)) [
-        | yes e ↦ let d : drop k l ≡ [] = drop_of_length-le l {i = k} (omega arith) in
-            (ap pairs_read d, ap hex? d ∙ sym (eq-eqb k (length l) e))
-        | no n ↦ let d : drop k l ≡ get_or l k 0 ∷ [] = one (omega arith) g in
-            (ap pairs_read d, ap hex? d ∙ sym (ne_eqb k (length l) n))
-      ]
+-- the next piece of up to two bytes
+pub two : (p : List ℕ) → length p ≡ 2 → p ≡ get_or p 0 0 ∷ get_or p 1 0 ∷ []
+two [] h = absurd (omega arith)
+two (a ∷ []) h = absurd (omega arith)
+two (a ∷ b ∷ []) h = refl
+two (a ∷ b ∷ x ∷ p) h = absurd (omega arith)
 
--- two bytes a and b, and what the code found that they count for
-module _ (a b : ℕ) {x y : ℕ} (p : x ≡ digit_value a) (q : y ≡ digit_value b) where
-  pub a_pair : x < 16 → y < 16 → digit? a && digit? b ≡ true
-  a_pair g h = and_join (lt-ltb (digit_value a) 16 (omega arith)) (lt-ltb (digit_value b) 16 (omega arith))
+one : (p : List ℕ) → length p ≡ 1 → p ≡ get_or p 0 0 ∷ []
+one [] h = absurd (omega arith)
+one (a ∷ []) h = refl
+one (a ∷ b ∷ p) h = absurd (omega arith)
 
-  pub first_none : 16 ≤ x → digit? a && digit? b ≡ false
-  first_none g = rw (le-ltb (digit_value a) 16 (omega arith))
+module _ {h before rest out : List ℕ} {i : ℕ} (q : Left h before rest i out) where
+  module _ (a b : ℕ) (more : List ℕ) (e : rest ≡ a ∷ b ∷ more) where
+    pub left_next : digit? a ≡ true → digit? b ≡ true → Left h before more (i + 1) (set out i (pair_value a b))
+    unfolding over hex? pairs_read
+    left_next s t =
+        record {
+          hex = q.hex ∙ rw (e, s, t);
+          bytes = q.bytes ∙ rw (e, s, t);
+          count = q.count ∙ rw (e, s, t) (omega arith);
+          long = omega (arith, q.long, ap length e);
+          room = length-set out i (pair_value a b) ∙ q.room;
+        }
 
-  pub second_none : 16 ≤ y → digit? a && digit? b ≡ false
-  second_none g = rw (le-ltb (digit_value b) 16 (omega arith)) (and_false (digit? a))
+    pub left_stop : digit? a && digit? b ≡ false → Decodes h before None out
+    unfolding over hex? pairs_read
+    left_stop t =
+        let f : hex? h ≡ false = q.hex ∙ rw (e, t) in
+        record { answer = rw f; bytes = sym (q.bytes ∙ rw (e, t)) }
 
--- ---- a loop that reads: what is left equals the whole
+  -- one byte is left
+  pub left_one : length rest ≡ 1 → Decodes h before None out
+  unfolding over hex? pairs_read
+  left_one e =
+      let f : hex? h ≡ false = q.hex ∙ rw (one rest e) in
+      record { answer = rw f; bytes = sym (q.bytes ∙ rw (one rest e)) }
 
-pub record Left (h before : List ℕ) (at i : ℕ) (out : List ℕ) : Type 0 where
-  pub hex : hex? h ≡ hex? (drop at h)
-  pub count : length (pairs_read h) ≡ i + length (pairs_read (drop at h))
-  pub bytes : over before 0 (pairs_read h) ≡ over out i (pairs_read (drop at h))
-
-pub left_start : (h before : List ℕ) → Left h before 0 0 before
-left_start h before = record { hex = refl; count = omega arith; bytes = refl }
-
-module _ {h before out : List ℕ} (at i : ℕ) (q : Left h before at i out) where
-  pub left_next : at + 1 < length h → pair? h at ≡ true → Left h before (at + 2) (i + 1) (set out i (pair_value (get_or h at 0) (get_or h (at + 1) 0)))
-  unfolding over
-  left_next g t =
-      let e = pairs_next h at g t in
-      record {
-        hex = q.hex ∙ hex_next h at g t;
-        count = q.count ∙ rw e (omega arith);
-        bytes = q.bytes ∙ ap (over out i) e;
-      }
-
-  pub left_stop : at + 1 < length h → pair? h at ≡ false → Decodes h before (record { ok = false; count = i }) out
-  unfolding over
-  left_stop g t =
-      let e = pairs_stop h at g t in
-      let n : length (pairs_read h) ≡ i = q.count ∙ rw e (omega arith) in
-      let f : hex? h ≡ false = q.hex ∙ hex_stop h at g t in
-      record { answer = rw (n, f); bytes = sym (q.bytes ∙ ap (over out i) e) }
-
-  pub left_end : at ≤ length h → length h ≤ at + 1 → Decodes h before (record { ok = eqb at (length h); count = i }) out
-  unfolding over
-  left_end g k =
-      let e = ended h at g k in
-      let n : length (pairs_read h) ≡ i = q.count ∙ rw e.0 (omega arith) in
-      let f : hex? h ≡ eqb at (length h) = q.hex ∙ e.1 in
-      record { answer = rw (n, f); bytes = sym (q.bytes ∙ ap (over out i) e.0) }
+  pub left_end : length rest ≡ 0 → Decodes h before (Some (length h / 2)) out
+  unfolding over hex? pairs_read
+  left_end e =
+      let f : hex? h ≡ true = q.hex ∙ rw (nil_from_length rest e) in
+      let n : length (pairs_read h) ≡ length h / 2 = q.count ∙ rw (nil_from_length rest e) (omega (arith, q.long, e)) in
+      record { answer = rw f (ap Some (sym n)); bytes = sym (q.bytes ∙ rw (nil_from_length rest e)) }
 
 -- ---- what was read stands in the buffer
 
@@ -110,14 +110,21 @@ pairs_half (a ∷ b ∷ bs) = pick (digit? a && digit? b) (pairs_half bs)
     pick true h = omega arith
     pick false h = omega arith
 
-pub told_bytes : {h before after : List ℕ} {r : Decoded} → length h ≤ 2 * length before → Decodes h before r after → bytes_told r after ≡ unhexed h
-unfolding unhexed
-told_bytes {h} {before} g d =
-    rw (d.answer, d.bytes)
-    (ap (λ (t : List ℕ). cond (hex? h) (some t) none) (over_first (pairs_read h) before (omega (arith, pairs_half h))))
+module _ {h before after : List ℕ} {r : Option ℕ} (g : length h ≤ 2 * length before) (d : Decodes h before r after) where
+  pub told_bytes : told_first r after ≡ unhexed h
+  unfolding unhexed
+  told_bytes = rw (d.answer, d.bytes) (pick (hex? h))
+    where
+      pick : (t : Bool) → told_first (cond t (Some (length (pairs_read h))) None) (over before 0 (pairs_read h)) ≡ cond t (some (pairs_read h)) none
+      pick true = ap some (over_first (pairs_read h) before (omega (arith, pairs_half h)))
+      pick false = refl
 
-pub count_inside : {h before after : List ℕ} {r : Decoded} → length h ≤ 2 * length before → Decodes h before r after → r.count ≤ length after
-count_inside {h} {before} g d = rw (d.answer, d.bytes, length_over (pairs_read h) before 0) (omega (arith, pairs_half h))
+  pub count_inside : IfSome r (λ n. n ≤ length after)
+  count_inside = rw (d.answer, d.bytes, length_over (pairs_read h) before 0) (pick (hex? h))
+    where
+      pick : (t : Bool) → IfSome (cond t (Some (length (pairs_read h))) None) (λ n. n ≤ length before)
+      pick true = omega (arith, pairs_half h)
+      pick false = tt
 
 -- ---- a loop that writes
 

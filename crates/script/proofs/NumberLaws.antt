@@ -1,14 +1,33 @@
 -- Laws of numbers: read digit by digit, and word by word.
-use Rattle.std.proofs.Common.{◌≡◌, ℕ, ◌+◌, ◌-◌, ◌*◌, ◌<◌, ◌≤◌, Bool, true, false, cond, ◌&&◌, leb, List, [], ◌∷◌, ◌++◌, length, get_or, take, drop, set, ℤ, sym, refl, ap, ◌∙◌, append-nil, add-one, arith, length-append, drop_of_length-le, drop-cons, take-suc-set, eq-eqb, ne_eqb, le-leb, leb-false, leb-true}
+use Rattle.std.proofs.Common.{◌≡◌, ℕ, suc, ◌+◌, ◌-◌, ◌*◌, ◌<◌, ◌≤◌, Bool, true, false, cond, ◌&&◌, eqb, leb, List, [], ◌∷◌, ◌++◌, length, get_or, take, drop, set, ℤ, sym, refl, ap, ◌∙◌, append-nil, add-one, arith, length-append, drop_of_length-le, drop-cons, take_all, take-suc-set, eq-eqb, ne_eqb, le-leb, leb-false, leb-true}
 use mathlib.Core.Option.{Option, none, some}
 use lib.Seq.{append_snoc}
-use borrow.Author.Tests.{lt-leb}
+use borrow.Author.Tests.{lt-leb, eqb-true}
 use Rattle.model.specs.Lists.{all, none?}
 use Rattle.model.specs.Words.{digit, spelled, positive, negative}
-use Rattle.model.proofs.Basics.{and_false, none_some}
+use Rattle.model.proofs.Basics.{true_false, and_split, and_join, and_false, none_some}
+use Rattle.std.specs.Char as char
+use Rattle.std.proofs.lemmas.Str.{digit_value_digit}
+use Rattle.std.proofs.lemmas.Str.Parse.{digit_from_value}
 use Rattle.script.specs.Numbers.{whole_of, highest, deepest, number_of, both, numbers_of, no_more_than}
 
 -- ---- digits
+
+-- what std counts a decimal digit for
+pub a_decimal : (b d : ℕ) → (char.digit_value b < 10) × (d ≡ char.digit_value b) → (digit b ≡ true) × (d ≡ b - 48)
+a_decimal b d h =
+    let r = digit_from_value b h.0 in
+    (and_join (le-leb 48 b (omega (arith, r))) (le-leb b 57 (omega (arith, r))), omega (arith, digit_value_digit b r, h.1))
+
+pub no_decimal : (b : ℕ) → (char.digit_value b < 10 → ⊥) → digit b ≡ false
+no_decimal b h = pick (digit b) refl
+  where
+    pick : (t : Bool) → digit b ≡ t → t ≡ false
+    pick true e =
+        let s = and_split (leb 48 b) (leb b 57) e in
+        let r : (48 ≤ b) × (b ≤ 57) = (leb-true 48 b s.0, leb-true b 57 s.1) in
+        absurd (h (omega (arith, digit_value_digit b r, r)))
+    pick false e = refl
 
 spelled_grows : (l : List ℕ) (a : ℕ) → a ≤ spelled a l
 unfolding spelled
@@ -20,15 +39,15 @@ abbrev pub whole_from : ℕ → ℕ → List ℕ → Option ℕ
 whole_from most a w = cond (all digit w && leb (spelled a w) most) (some (spelled a w)) none
 
 module _ (most : ℕ) where
-  pub whole_some : (w : List ℕ) → (length w ≡ 0 → ⊥) → whole_of most w ≡ whole_from most 0 w
+  pub whole_some : (w : List ℕ) → eqb (length w) 0 ≡ false → whole_of most w ≡ whole_from most 0 w
   unfolding whole_of none?
-  whole_some [] h = absurd (h refl)
+  whole_some [] h = true_false h
   whole_some (b ∷ bs) h = refl
 
-  pub whole_none : (w : List ℕ) → length w ≡ 0 → whole_of most w ≡ none
+  pub whole_none : (w : List ℕ) → eqb (length w) 0 ≡ true → whole_of most w ≡ none
   unfolding whole_of none?
   whole_none [] h = refl
-  whole_none (b ∷ bs) h = absurd (omega arith)
+  whole_none (b ∷ bs) h = absurd (omega (arith, eqb-true (length (b ∷ bs)) 0 h))
 
   pub whole_above : (l : List ℕ) (a : ℕ) → most < a → whole_from most a l ≡ none
   whole_above l a h = rw (lt-leb (spelled a l) most (omega (arith, spelled_grows l a)), and_false (all digit l))
@@ -64,15 +83,15 @@ unfolding number_of
 number_none [] h = refl
 number_none (b ∷ bs) h = absurd (omega arith)
 
-pub number_minus : (w : List ℕ) → (length w ≡ 0 → ⊥) → get_or w 0 0 ≡ 45 → number_of w ≡ negative (whole_of deepest (drop 1 w))
+pub number_minus : (w : List ℕ) → 1 ≤ length w → get_or w 0 0 ≡ 45 → number_of w ≡ negative (whole_of deepest (take (length w - 1) (drop 1 w)))
 unfolding number_of
-number_minus [] h e = absurd (h refl)
-number_minus (b ∷ bs) h e = rw (eq-eqb b 45 e)
+number_minus [] h e = absurd (omega arith)
+number_minus (b ∷ bs) h e = rw (eq-eqb b 45 e, take_all (suc (length bs) - 1) bs (omega arith))
 
-pub number_plain : (w : List ℕ) → (length w ≡ 0 → ⊥) → (get_or w 0 0 ≡ 45 → ⊥) → number_of w ≡ positive (whole_of highest w)
-unfolding number_of
-number_plain [] h e = absurd (h refl)
-number_plain (b ∷ bs) h e = rw (ne_eqb b 45 e)
+pub number_plain : (w : List ℕ) → (1 ≤ length w → get_or w 0 0 ≡ 45 → ⊥) → number_of w ≡ positive (whole_of highest w)
+unfolding number_of whole_of none? positive
+number_plain [] h = refl
+number_plain (b ∷ bs) h = rw (ne_eqb b 45 (h (omega arith)))
 
 -- ---- a run of numbers
 

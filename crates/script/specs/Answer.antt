@@ -19,6 +19,10 @@ said number shown = joined (head number ∷ shown ∷ ascii "\n" ∷ [])
 unfoldable pub usage_text : Usage → List ℕ
 usage_text a = cond (a.number == 0) (joined (cond a.used (ascii "1") (ascii "0") ∷ ascii " " ∷ decimal a.looked ∷ [])) []
 
+-- 1 or 0, a space, and a count of 64 bits
+abbrev pub longest_usage : ℕ
+longest_usage = 22
+
 -- no directive: the number of the line
 unfoldable pub complaint : ℕ → List ℕ
 complaint line = joined (ascii "? " ∷ decimal line ∷ ascii "\n" ∷ [])

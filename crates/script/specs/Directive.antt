@@ -1,5 +1,5 @@
 -- What a line of a script orders.
-use Rattle.std.specs.Prelude.{◌≡◌, ℕ, ◌≤◌, cond, ◌||◌, List, [], ◌∷◌, length, take, ℤ, pos, ◌==◌, nat_le, slice_index_or}
+use Rattle.std.specs.Prelude.{◌≡◌, ℕ, ◌≤◌, cond, ◌||◌, List, [], ◌∷◌, length, take, ℤ, pos, ◌==◌, nat_le, slice_index_or, Option as Answer, Some, None, IfSome}
 use Rattle.std.proofs.Math.Option.{Option, none, some}
 use Rattle.model.specs.Ascii.{ascii}
 use Rattle.model.specs.Lists.{same}
@@ -9,9 +9,9 @@ use Rattle.print.specs.Over.{over}
 use Rattle.script.specs.Fields.{fields}
 use Rattle.script.specs.Hex.{unhexed, pairs_read}
 use Rattle.script.specs.Numbers.{whole_of, numbers_of}
-use Rattle.script.specs.declared.hex.Decoded.{Decoded}
 use Rattle.script.specs.declared.parse.Directive.{Directive}
-use Rattle.script.specs.declared.parse.Directive.TheVariants.{Line, Restart, Write, Image, Factory, Use, Position as Stands, Malformed}
+use Rattle.script.specs.declared.parse.Directive.TheVariants.{Line, Restart, Write, Image, Factory, Use, Position as Stands}
+use Rattle.script.specs.Told.{told_first}
 
 -- ---- limits
 
@@ -99,7 +99,7 @@ order text = cond (nat_le (length text) longest_line) (understood (fields text))
 
 -- ---- the answers of the code
 -- Directives are the shared vectors' and not document 01's: a malformed one has none of its numbers and is answered by its line (`complaint` in Answer.antt).
--- So each case is said to be a value or none, and at last an order, of which `unclear` is the refusal.
+-- So each step is said to be a value or none, and at last an order, of which `unclear` is the refusal.
 
 -- an order for each case; the bytes of a directive stand first in the buffer
 abbrev pub order_of : Directive → List ℕ → Order
@@ -110,16 +110,16 @@ order_of (Image k) b = start (take k b)
 order_of Factory b = factory
 order_of (Use k) b = question (take k b)
 order_of (Stands p) b = position p
-order_of Malformed b = unclear
 
--- bytes, or none: a field was read into a lent buffer
-abbrev pub bytes_told : Decoded → List ℕ → Option (List ℕ)
-bytes_told d b = cond d.ok (some (take d.count b)) none
+abbrev pub ordered : Answer Directive → List ℕ → Order
+ordered (Some d) b = order_of d b
+ordered None b = unclear
 
-pub record Spelled (h before : List ℕ) (r : Decoded) (after : List ℕ) : Type 0 where
-  pub told : bytes_told r after ≡ bytes_of h
+-- a field was read into a lent buffer
+pub record Spelled (h before : List ℕ) (r : Answer ℕ) (after : List ℕ) : Type 0 where
+  pub told : told_first r after ≡ bytes_of h
   pub bytes : after ≡ over before 0 (pairs_read h)
-  pub inside : r.count ≤ length after
+  pub inside : IfSome r (λ n. n ≤ length after)
 
 -- the field that is decoded
 unfoldable pub hex_field : List (List ℕ) → List ℕ
@@ -138,13 +138,12 @@ Bounded (Image k) b = k ≤ length b
 Bounded Factory b = Unit {0}
 Bounded (Use k) b = k ≤ length b
 Bounded (Stands p) b = Unit {0}
-Bounded Malformed b = Unit {0}
 
 -- an order was understood, and the field h decoded into a lent buffer
-pub record Understood (o : Order) (h before : List ℕ) (r : Directive) (after : List ℕ) : Type 0 where
-  pub order : order_of r after ≡ o
+pub record Understood (o : Order) (h before : List ℕ) (r : Answer Directive) (after : List ℕ) : Type 0 where
+  pub order : ordered r after ≡ o
   pub bytes : after ≡ over before 0 (pairs_read h)
-  pub bounded : Bounded r after
+  pub bounded : IfSome r (λ d. Bounded d after)
 
 -- the field that is decoded of a whole line
 unfoldable pub hex_of : List ℕ → List ℕ

@@ -1,9 +1,8 @@
 -- Bytes as pairs of hexadecimal digits, both ways.
-use Rattle.std.specs.Prelude.{◌≡◌, ℕ, ◌+◌, ◌-◌, ◌*◌, ◌/◌, ◌%◌, Bool, true, false, cond, ◌&&◌, List, [], ◌∷◌, length, nat_lt}
+use Rattle.std.specs.Prelude.{◌≡◌, ℕ, ◌+◌, ◌-◌, ◌*◌, ◌/◌, ◌%◌, Bool, true, false, cond, ◌&&◌, List, [], ◌∷◌, length, nat_lt, Option as Answer, Some, None}
 use Rattle.std.proofs.Math.Option.{Option, none, some}
 use Rattle.model.specs.Lists.{between}
 use Rattle.print.specs.Over.{over}
-use Rattle.script.specs.declared.hex.Decoded.{Decoded}
 
 -- ---- read
 
@@ -13,6 +12,10 @@ digit_value b = cond (between 48 57 b) (b - 48) (cond (between 97 102 b) (b - 87
 
 abbrev pub digit? : ℕ → Bool
 digit? b = nat_lt (digit_value b) 16
+
+-- the answer of the code to one digit
+abbrev pub digit_read : ℕ → Answer ℕ
+digit_read b = cond (digit? b) (Some (digit_value b)) None
 
 abbrev pub pair_value : ℕ → ℕ → ℕ
 pair_value a b = digit_value a * 16 + digit_value b
@@ -33,12 +36,12 @@ pairs_read (a ∷ b ∷ bs) = cond (digit? a && digit? b) (pair_value a b ∷ pa
 unfoldable pub unhexed : List ℕ → Option (List ℕ)
 unhexed h = cond (hex? h) (some (pairs_read h)) none
 
--- the answer of the code: whether the text spells bytes, and how many were read
-abbrev pub decoded : List ℕ → Decoded
-decoded h = record { ok = hex? h; count = length (pairs_read h) }
+-- the answer of the code: how many bytes the text spells, if it spells any
+abbrev pub decoded : List ℕ → Answer ℕ
+decoded h = cond (hex? h) (Some (length (pairs_read h))) None
 
 -- the text was decoded into a lent buffer
-pub record Decodes (h before : List ℕ) (r : Decoded) (after : List ℕ) : Type 0 where
+pub record Decodes (h before : List ℕ) (r : Answer ℕ) (after : List ℕ) : Type 0 where
   pub answer : r ≡ decoded h
   pub bytes : after ≡ over before 0 (pairs_read h)
 

@@ -1,4 +1,5 @@
 pub mod Fields
+pub mod Told
 pub mod Hex
 pub mod Numbers
 pub mod Directive

@@ -1,14 +1,9 @@
 -- Decimal whole numbers of a script.
-use Rattle.std.specs.Prelude.{◌≡◌, ℕ, ◌-◌, ◌^◌, ◌≤◌, cond, not, ◌&&◌, List, [], ◌∷◌, length, take, ℤ, ◌==◌, nat_le}
+use Rattle.std.specs.Prelude.{◌≡◌, ℕ, ◌-◌, ◌^◌, ◌≤◌, cond, not, ◌&&◌, List, [], ◌∷◌, length, ℤ, ◌==◌, nat_le, Option as Answer, IfSome}
 use Rattle.std.proofs.Math.Option.{Option, none, some}
 use Rattle.model.specs.Lists.{all, none?}
 use Rattle.model.specs.Words.{digit, spelled, positive, negative}
-use Rattle.script.specs.declared.numbers.Whole.{Whole}
-use Rattle.script.specs.declared.numbers.Whole.TheVariants as whole
-use Rattle.script.specs.declared.numbers.Number.{Number}
-use Rattle.script.specs.declared.numbers.Number.TheVariants as number
-use Rattle.script.specs.declared.numbers.Numbers.{Numbers}
-use Rattle.script.specs.declared.numbers.Numbers.TheVariants as numbers
+use Rattle.script.specs.Told.{told_first}
 
 -- ---- digits
 
@@ -48,26 +43,9 @@ unfoldable pub no_more_than : ℕ → Option (List ℤ) → Option (List ℤ)
 no_more_than places none = none
 no_more_than places (some zs) = cond (nat_le (length zs) places) (some zs) none
 
--- ---- the answers of the code: a value, or none
-
-abbrev pub whole_told : Whole → Option ℕ
-whole_told (whole.Value n) = some n
-whole_told whole.Wrong = none
-
-abbrev pub number_told : Number → Option ℤ
-number_told (number.Value z) = some z
-number_told number.Wrong = none
-
--- numbers stand first in the lent run
-abbrev pub numbers_told : Numbers → List ℤ → Option (List ℤ)
-numbers_told (numbers.Count n) run = some (take n run)
-numbers_told numbers.Wrong run = none
-
-abbrev pub Inside : Numbers → List ℤ → Type 0
-Inside (numbers.Count n) run = n ≤ length run
-Inside numbers.Wrong run = Unit {0}
+-- ---- the answer of the code
 
 -- words were read into a lent run of so many places
-pub record ReadsNumbers (ws : List (List ℕ)) (places : ℕ) (r : Numbers) (run : List ℤ) : Type 0 where
-  pub told : numbers_told r run ≡ no_more_than places (numbers_of ws)
-  pub inside : Inside r run
+pub record ReadsNumbers (ws : List (List ℕ)) (places : ℕ) (r : Answer ℕ) (run : List ℤ) : Type 0 where
+  pub told : told_first r run ≡ no_more_than places (numbers_of ws)
+  pub inside : IfSome r (λ n. n ≤ length run)

@@ -1,5 +1,5 @@
 -- ksscript for input that comes in blocks: lines are cut as in lines/specs/Feed.antt, and answered as Obey.antt says.
-use Rattle.std.specs.Prelude.{◌≡◌, ℕ, suc, ◌+◌, ◌*◌, ◌%◌, ◌^◌, ◌<◌, ◌≤◌, true, List, length, take}
+use Rattle.std.specs.Prelude.{◌≡◌, ℕ, ◌+◌, ◌%◌, ◌^◌, ◌<◌, ◌≤◌, List, length, take}
 use Rattle.model.specs.Machine.{start_factory}
 use Rattle.model.specs.Stored.{View, holds, view_of}
 use Rattle.lines.specs.Feed.{Machine, Held, Fed, fed, ended, holding}
@@ -7,9 +7,7 @@ use Rattle.lines.specs.Whole.{WholeInput}
 use Rattle.print.specs.Over.{Wrote}
 use Rattle.script.specs.declared.feed.Script.{Script}
 use Rattle.script.specs.declared.feed.Fed.{Fed as StoredFed}
-use Rattle.script.specs.declared.drive.Served.{Served}
-use Rattle.script.specs.Directive.{longest_line, longest_lent, order}
-use Rattle.script.specs.Answer.{longest_answer}
+use Rattle.script.specs.Directive.{longest_line, order}
 use Rattle.script.specs.Obey.{done, next_state, answer}
 
 -- between two lines: the state, and the number of the next line
@@ -49,13 +47,6 @@ held_of s line = holding (place_of s) (take s.held line)
 abbrev pub given : Script → List ℕ → List ℕ → Fed Place ℕ
 given s held part = fed answering (place_of s) (take s.held held) part
 
--- every line can be held and decoded, every buffer lent, and every answer given
-pub record Roomy (line₀ bytes₀ reply₀ out₀ : List ℕ) : Type 0 where
-  pub line : length line₀ ≡ suc longest_line
-  pub bytes : longest_line ≤ 2 * length bytes₀
-  pub reply : longest_lent ≤ length reply₀
-  pub out : longest_answer ≤ length out₀
-
 -- so much of a line as fits stands first in the buffer
 pub record Keeps (l line : List ℕ) (n : ℕ) : Type 0 where
   pub bytes : take n line ≡ take (length line) l
@@ -80,7 +71,7 @@ pub record Ends (s : Script) (held before after : List ℕ) (n : ℕ) : Type 0 w
   pub puts : Wrote (ended answering (held_of s held)) before 0 after n
   pub room : n ≤ length before
 
--- a block was served: if all could be written, the script holds what it gives for the whole block
-pub record Serves (s : Script) (before block after : List ℕ) (r : Served) : Type 0 where
-  pub held : r.ok ≡ true → held_of r.script after ≡ (given s before block).held
-  pub few : r.script.held ≤ length after
+-- a block was served, and all could be written: the script t holds what s gives for the whole block
+pub record Serves (s : Script) (before block after : List ℕ) (t : Script) : Type 0 where
+  pub held : held_of t after ≡ (given s before block).held
+  pub few : t.held ≤ length after

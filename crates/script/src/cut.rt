@@ -7,12 +7,9 @@ ghost use Rattle.script.specs.Run.{Keeps};
 pub fn keep(line: &mut [u8], count: usize, part: &[u8]) -> usize
     requires { count ≤ length line.old }
     ensures wrote { Wrote (take (length line.old - count) part.now) line.old count line.new result }
-    ensures upper_bound { result ≤ length line.old }
+    ensures within { result ≤ length line.old }
 {
-    let room = line.len() - count;
-    if part.len() <= room {
-        return print::put_text(line, count, part);
-    }
+    let room = part.len().min(line.len() - count);
     print::put_text(line, count, &part[..room])
 }
 

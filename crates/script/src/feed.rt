@@ -1,13 +1,14 @@
 // A block of a script: its lines are obeyed one after the other, and their answers stand in a lent buffer.
-ghost use Rattle.std.specs.Prelude.{◌≤◌, [], length, take};
-ghost use Rattle.script.specs.Run.{place_of, Roomy, Begins, Feeds, Ends};
+ghost use Rattle.std.specs.Prelude.{◌≡◌, ◌≤◌, suc, [], length, take};
+ghost use Rattle.script.specs.Directive.{longest_line};
+ghost use Rattle.script.specs.Run.{place_of, Begins, Feeds, Ends};
 
 use crate::cut::{join, keep};
 use crate::obey::obey;
 use crate::parse::LONGEST_LENT;
+use crate::rooms::Rooms;
 use lines::line_end;
 use model::State;
-use std::num::wrapping_add_u64;
 
 // What stands beside a call's bytes: a number of up to three digits, a space and LF.
 const BESIDE: usize = 5;
@@ -44,22 +45,16 @@ pub fn begin() -> Script
 }
 
 // Whole lines from the start of a block on, while there is room for an answer. What is left without an LF is held in the buffer line.
-fn whole_lines(
-    s: Script,
-    block: &[u8],
-    line: &mut [u8],
-    bytes: &mut [u8],
-    reply: &mut [u8],
-    out: &mut [u8],
-) -> Fed
-    requires { Roomy line.old bytes.old reply.old out.old }
-    ensures { Feeds (place_of s) [] block.now out.old out.new line.new result }
+fn whole_lines(s: Script, block: &[u8], line: &mut [u8], rooms: &mut Rooms) -> Fed
+    requires { length line.old ≡ suc longest_line }
+    ensures { Feeds (place_of s) [] block.now rooms.old.out.now rooms.new.out.now line.new result }
 {
     let mut state = s.state;
     let mut number = s.line;
     let mut at = 0;
     let mut written = 0;
-    while LONGEST_ANSWER <= out.len() - written {
+    // no `for`: a line begins where the one before ended, and room for an answer may be left or not
+    while LONGEST_ANSWER <= rooms.out.len() - written {
         let end = line_end(block, at);
         if end == block.len() {
             let held = keep(line, 0, &block[at..]);
@@ -74,9 +69,9 @@ fn whole_lines(
                 written,
             };
         }
-        let o = obey(state, &block[at..end], number, bytes, reply, out, written);
+        let o = obey(state, &block[at..end], number, rooms, written);
         state = o.state;
-        number = wrapping_add_u64(number, 1);
+        number = number.wrapping_add(1);
         at = end + 1;
         written = o.end;
     }
@@ -93,22 +88,14 @@ fn whole_lines(
 }
 
 // A block: first the line that was held, if there is one, then whole lines.
-pub fn feed(
-    s: Script,
-    held: &[u8],
-    block: &[u8],
-    line: &mut [u8],
-    bytes: &mut [u8],
-    reply: &mut [u8],
-    out: &mut [u8],
-) -> Fed
-    requires roomy { Roomy line.old bytes.old reply.old out.old }
+pub fn feed(s: Script, held: &[u8], block: &[u8], line: &mut [u8], rooms: &mut Rooms) -> Fed
+    requires line_long { length line.old ≡ suc longest_line }
     requires held_in_bounds { (s.held ≤ length held.now) × (length held.now ≤ length line.old) }
-    ensures { Feeds (place_of s) (take s.held held.now) block.now out.old out.new line.new result }
+    ensures { Feeds (place_of s) (take s.held held.now) block.now rooms.old.out.now rooms.new.out.now line.new result }
 {
     let count = s.held;
     if count == 0 {
-        return whole_lines(s, block, line, bytes, reply, out);
+        return whole_lines(s, block, line, rooms);
     }
     let end = line_end(block, 0);
     let n = join(line, &held[..count], &block[..end]);
@@ -126,11 +113,11 @@ pub fn feed(
             written: 0,
         };
     }
-    let o = obey(state, &line[..n], number, bytes, reply, out, 0);
+    let o = obey(state, &line[..n], number, rooms, 0);
     let after = o.state;
     let script = Script {
         state: after,
-        line: wrapping_add_u64(number, 1),
+        line: number.wrapping_add(1),
         held: 0,
     };
     Fed {
@@ -141,16 +128,15 @@ pub fn feed(
 }
 
 // The end of the input: what is held is one more line, if there is any.
-pub fn finish(s: Script, held: &[u8], bytes: &mut [u8], reply: &mut [u8], out: &mut [u8]) -> usize
-    requires roomy { Roomy held.now bytes.old reply.old out.old }
-    requires held_in_bounds { s.held ≤ length held.now }
-    ensures { Ends s held.now out.old out.new result }
+pub fn finish(s: Script, held: &[u8], rooms: &mut Rooms) -> usize
+    requires { s.held ≤ length held.now }
+    ensures { Ends s held.now rooms.old.out.now rooms.new.out.now result }
 {
     let n = s.held;
     if n == 0 {
         return 0;
     }
     let state = s.state;
-    let o = obey(state, &held[..n], s.line, bytes, reply, out, 0);
+    let o = obey(state, &held[..n], s.line, rooms, 0);
     o.end
 }

@@ -20,8 +20,5 @@ pub fn bytes_of(text: &[u8], w: Word) -> &[u8]
 pub fn is_letter(word: &[u8], letter: u8) -> bool
     ensures { result ≡ same word.now (letter ∷ []) }
 {
-    if word.len() != 1 {
-        return false;
-    }
-    word[0] == letter
+    matches!(word, [b] if *b == letter)
 }

@@ -10,5 +10,6 @@ mod hex; // hex.rt: bytes as pairs of digits
 mod numbers; // numbers.rt: decimal whole numbers
 mod obey; // obey.rt: one line, carried out and answered
 mod parse; // parse.rt: what a line orders
+mod rooms; // rooms.rt: the buffers that are lent for lines
 
 pub use drive::run;

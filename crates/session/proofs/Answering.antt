@@ -1,8 +1,8 @@
 -- From what the engine gives for a line to what is said.
 use Prim.Native.Nat.{ℕ, ◌≤◌, ◌<◌}
-use mathlib.Core.Path.{◌≡◌, sym, ap, ◌∙◌}
+use mathlib.Core.Path.{◌≡◌, refl, sym, ap, ◌∙◌}
 use mathlib.Core.List.{List}
-use mathlib.Core.Bool.{Bool, true, cond, ◌&&◌}
+use mathlib.Core.Bool.{Bool, true, false, cond, ◌&&◌}
 use mathlib.Core.Logic.{⊎_elim}
 use native.Mathlib.Omega.{arith}
 use borrow.Author.Tests.{eqb-true, eqb-false}
@@ -15,26 +15,32 @@ use Rattle.model.proofs.Digits.{decimal_short}
 use Rattle.reply.proofs.ListLaws.{replied}
 use Rattle.model.specs.declared.State.{State as StoredState}
 use Rattle.model.specs.Limits.{buffer_limit}
+use Rattle.model.specs.Memory.{Memory}
 use Rattle.model.specs.Request.{reading}
 use Rattle.model.specs.Machine.{Outcome, stepped, written}
 use Rattle.model.specs.Checklist.{asks_to_save}
 use Rattle.model.specs.PowerSwitch.{saves}
 use Rattle.model.specs.Trace.{refusal_text, printed}
 use Rattle.model.specs.Stored.{FineState, shaped, memory_of, state_of}
-use Rattle.model.proofs.Basics.{either}
+use Rattle.std.specs.Prelude.{Some, None, Result, Ok, Err}
+use Rattle.model.proofs.Basics.{either, and_false}
 use Rattle.model.proofs.Histories.Kept.{well_formed_kept}
-use Rattle.commands.specs.Done.{saving, number_in, Applied}
+use Rattle.commands.specs.Done.{saving_by, Doable, Applied}
 use Rattle.engine.specs.declared.answer.Step.{Step}
-use Rattle.engine.specs.Taken.{Takes, taken_of}
-use Rattle.model.specs.Tally.{counted}
-use Rattle.tally.specs.declared.Tally.{Tally as StoredTally}
-use Rattle.tally.specs.Counts.{tally_of}
+use Rattle.engine.specs.Taken.{Takes, deed_of, count_of, settled_by, outcome_by}
+use Rattle.engine.specs.Taken.{step_of}
+use Rattle.commands.specs.declared.changed.Deed.{Deed}
+use Rattle.commands.specs.Done.{settle, settles}
+use Rattle.commands.proofs.Settled.{doable_settled, saving_settled}
+use Rattle.facts.specs.declared.refusals.Refusal.{Refusal}
+use Rattle.facts.specs.Refusals.{number_of}
+use Rattle.facts.specs.Refusals.{outcome as told}
+use Rattle.model.specs.Tally.{Tally, counted}
 use Rattle.reply.specs.Lines.{Replied}
 use Rattle.session.specs.Feed.{lent, said, outcome}
-use Rattle.session.specs.Blocks.{Says, Answers, manner_of, due_after}
+use Rattle.session.specs.Blocks.{Says, Answered, reason_number, due_by}
 use Rattle.session.specs.declared.due.Manner.{Manner as StoredManner}
 use Rattle.session.specs.declared.due.Due.{Due}
-use Rattle.session.specs.declared.feed.Answer.{Answer}
 use Rattle.session.proofs.Buffer.{Seen, seen, any_buffer, Writes, taken_writes, turned_down}
 use Rattle.session.proofs.Whole.{lent_long}
 
@@ -90,42 +96,75 @@ module _ (s : StoredState) (fine : FineState s) (line b : List ℕ) (long : buff
       let p = says_puts d n says in
       rw p.count_is (fits (said (state_of s) line) b (sym (ap length p.bytes) ∙ kept))
 
-  -- what is due, by what was decided
-  pub due_is : (k : StoredManner) (stored : Bool) → stored ≡ eqb o.number 0 && asks_to_save (reading line) → (due : Due) →
-      due ≡ record { store = k.storing && stored; reason = cond k.explaining o.number 0 } → due ≡ due_after (manner_of k) (state_of s) line
+  -- so the line is answered, by any stored state that stands for the next one, and what is due is what the number and the asking say
+  pub answers : (k : StoredManner) (t : Tally) (d : List ℕ) {s' : StoredState} {t' : Tally} {n : ℕ} {due : Due} →
+      Says o.number o.count o.buffer d n → length d ≡ length b → state_of s' ≡ o.state → shaped s' ≡ true → t' ≡ counted t o.number →
+      due.store ≡ k.storing && (eqb o.number 0 && asks_to_save (reading line)) → reason_number due.reason ≡ cond k.explaining o.number 0 →
+      Answered k s t line b d s' t' n due
   unfolding saves
-  due_is k stored told due is =
-      is ∙ rw told (ap {B = Due} (λ (n : ℕ). record { store = k.storing && (eqb n 0 && asks_to_save (reading line)); reason = cond k.explaining n 0 })
-      (ap (λ (x : Seen). x.number) like_lent))
-
-  -- any stored state that stands for the next one will do
-  pub answers : (k : StoredManner) (t : StoredTally) (d : List ℕ) (r : Answer) → Says o.number o.count o.buffer d r.written → length d ≡ length b →
-      state_of r.state ≡ o.state → shaped r.state ≡ true → tally_of r.tally ≡ counted (tally_of t) o.number → r.due ≡ due_after (manner_of k) (state_of s) line →
-      Answers k s t line b d r
-  answers k t d r says kept state shape tally due =
+  answers k t d {s'} {t'} {n} {due} says kept state shape tally store reason =
       record {
-        puts = says_puts d r.written says;
-        room = says_room d r.written says kept;
+        puts = says_puts d n says;
+        room = says_room d n says kept;
         state = state ∙ ap (λ (x : Seen). x.state) like_lent;
         fine = record { shape = shape; formed = rw (state, e) (well_formed_kept.line (state_of s) line b fine.formed) };
-        tally = tally ∙ ap (λ (x : Seen). counted (tally_of t) x.number) like_lent;
-        due = due;
+        tally = tally ∙ ap (λ (x : Seen). counted t x.number) like_lent;
+        store = store ∙ ap (λ (x : Seen). k.storing && (eqb x.number 0 && asks_to_save (reading line))) like_lent;
+        reason = reason ∙ ap (λ (x : Seen). cond k.explaining x.number 0) like_lent;
       }
 
--- the same where the step was taken: its number is settled and counted, it is said, and done
-module _ (k : StoredManner) (s : StoredState) (t : StoredTally) (fine : FineState s) (line b : List ℕ) (long : buffer_limit ≤ length b) (step : Step) (c : List ℕ)
-    (takes : Takes s (asks_to_save (reading line)) (stepped (state_of s) line b) step c) (number : ℕ)
-    (settled : number ≡ number_in step.decision (memory_of s.permanent)) where
+-- ---- what a settled line does, and what is due behind it
+
+deed_step : (n : ℕ) (d : Result Deed Refusal) → deed_of (step_of n d) ≡ d
+deed_step n (Ok d) = refl
+deed_step n (Err why) = refl
+
+deed_settled : (p : Memory) (r : Result Step Refusal) → deed_of (settled_by p r) ≡ settles p (deed_of r)
+deed_settled p (Ok r) = deed_step r.length (settle p r.deed)
+deed_settled p (Err why) = refl
+
+cond_same : (b : Bool) → ◌≡◌ {A = ℕ} (cond b 0 0) 0
+cond_same true = refl
+cond_same false = refl
+
+reason_told : (b : Bool) (why : Refusal) → reason_number (cond b (Some why) None) ≡ cond b (number_of why) 0
+reason_told true why = refl
+reason_told false why = refl
+
+module _ (k : StoredManner) where
+  due_stores : (settled : Result Step Refusal) → (due_by k settled).store ≡ k.storing && saving_by (deed_of settled)
+  due_stores (Ok r) = refl
+  due_stores (Err why) = sym (and_false k.storing)
+
+  due_explains : (settled : Result Step Refusal) → reason_number (due_by k settled).reason ≡ cond k.explaining (told settled) 0
+  due_explains (Ok r) = sym (cond_same k.explaining)
+  due_explains (Err why) = reason_told k.explaining why
+
+-- the same where the step was taken: it is settled and counted, it is said, and done
+module _ (k : StoredManner) (s : StoredState) (t : Tally) (fine : FineState s) (line b : List ℕ) (long : buffer_limit ≤ length b) (decided : Result Step Refusal) (c : List ℕ)
+    (takes : Takes s (asks_to_save (reading line)) (stepped (state_of s) line b) decided c) (settled : Result Step Refusal)
+    (is_settled : settled ≡ settled_by (memory_of s.permanent) decided) where
+  deed_is : deed_of settled ≡ settles (memory_of s.permanent) (deed_of decided)
+  deed_is = ap deed_of is_settled ∙ deed_settled (memory_of s.permanent) decided
+
   abbrev pub settled_outcome : Outcome
-  settled_outcome = record { state = (taken_of (state_of s) step c).state; number = number; count = step.length; buffer = c }
+  settled_outcome = outcome_by (state_of s) settled c
 
   pub settled_is : settled_outcome ≡ stepped (state_of s) line b
-  settled_is = (λ i. record { state = (taken_of (state_of s) step c).state; number = settled i; count = step.length; buffer = c }) ∙ takes.outcome
+  settled_is = ap (λ (r : Result Step Refusal). outcome_by (state_of s) r c) is_settled ∙ takes.outcome
 
-  pub answers_taken : (d : List ℕ) (n : ℕ) → Says number step.length c d n → length d ≡ length b →
-      (next-tally : StoredTally) → tally_of next-tally ≡ counted (tally_of t) number →
-      (due : Due) → due ≡ record { store = k.storing && saving step.decision.deed; reason = cond k.explaining number 0 } →
-      {next : StoredState} → Applied s step.decision next → Answers k s t line b d (record { state = next; tally = next-tally; written = n; due = due })
-  answers_taken d n says kept next-tally tally due told {next} done =
-      answers s fine line b long settled_outcome settled_is k t d (record { state = next; tally = next-tally; written = n; due = due }) says kept done.state (done.shape fine.shape) tally
-      (due_is s fine line b long settled_outcome settled_is k _ (rw settled takes.saves) due told)
+  pub doable_done : Doable s.volatile (deed_of settled)
+  doable_done = rw deed_is (doable_settled (memory_of s.permanent) takes.doable)
+
+  saves_done : saving_by (deed_of settled) ≡ eqb (told settled) 0 && asks_to_save (reading line)
+  saves_done =
+      ap saving_by deed_is ∙ saving_settled (memory_of s.permanent) (deed_of decided)
+      ∙ takes.saves ∙ ap (λ (x : Outcome). eqb x.number 0 && asks_to_save (reading line)) (sym settled_is)
+
+  pub answers_taken : (d : List ℕ) (n : ℕ) → Says (told settled) (count_of settled) c d n → length d ≡ length b →
+      (t' : Tally) → t' ≡ counted t (told settled) → (due : Due) → due ≡ due_by k settled →
+      {next : StoredState} → Applied s (deed_of settled) next → Answered k s t line b d next t' n due
+  answers_taken d n says kept t' tally due is {next} done =
+      answers s fine line b long settled_outcome settled_is k t d says kept done.state (done.shape fine.shape) tally
+      (ap (λ (x : Due). x.store) is ∙ due_stores k settled ∙ ap (λ (x : Bool). k.storing && x) saves_done)
+      (ap (λ (x : Due). reason_number x.reason) is ∙ due_explains k settled)

@@ -1,6 +1,6 @@
 -- Document 01, "ksrun", for input that comes in blocks: lines are cut as in lines/specs/Feed.antt, and answered by the machine of document 01. The same for
 -- the acts of ksbench, and for the outcomes that document 02 §10 counts. Whole.antt ties all three to the whole input.
-use Rattle.std.specs.Prelude.{ℕ, suc, ◌≤◌, ◌≡◌, List, [], ◌∷◌, take, replicate}
+use Rattle.std.specs.Prelude.{ℕ, suc, List, [], ◌∷◌, replicate}
 use Rattle.model.specs.Limits.{buffer_limit, line_limit}
 use Rattle.model.specs.Memory.{State}
 use Rattle.model.specs.Machine.{Outcome, stepped}
@@ -8,7 +8,6 @@ use Rattle.model.specs.Tally.{Tally, counted_all}
 use Rattle.model.specs.Trace.{printed}
 use Rattle.model.specs.Bench.{Act, Manner, line_acts}
 use Rattle.lines.specs.Feed as Lines
-use Rattle.session.specs.declared.cut.Kept.{Kept}
 
 -- a line is carried out with a lent buffer of the least length that serves every reply
 unfoldable pub lent : List ℕ
@@ -74,10 +73,3 @@ ended_outcomes h = Lines.ended numbering h
 -- [02 §10] a tally at the end of the input: what is held is counted too, unless it is nothing
 abbrev pub closing : Tally → Held → Tally
 closing t h = counted_all t (ended_outcomes h)
-
--- ---- what the code cuts
-
--- the stored bytes are so much of a line as is enough
-pub record Keeps (line : List ℕ) (k : Kept) : Type 0 where
-  pub bytes : take k.count k.bytes ≡ take enough line
-  pub count : k.count ≤ enough

@@ -1,62 +1,53 @@
 // How a session is run, and what is due behind the answers of its lines.
-ghost use Rattle.std.specs.Prelude.{◌≡◌, false, cond, not, ◌&&◌, ◌||◌, eqb};
-ghost use Rattle.commands.specs.Done.{saving};
+ghost use Rattle.std.specs.Prelude.{◌≡◌, ◌||◌, is_some};
+ghost use Rattle.session.specs.Blocks.{due_by, nothing};
 
-use commands::changed::{Deed, saves};
+use commands::changed::saves;
+use engine::answer::Step;
+use facts::refusals::Refusal;
 
-// Whether an accepted WPA is to be stored in a file, and whether a refusal is to be explained.
+// Whether an accepted WPA is to be stored in a file, and whether a refusal is to be explained: two answers, with no value beside them.
 #[derive(Clone, Copy)]
 pub struct Manner {
     pub storing: bool,
     pub explaining: bool,
 }
 
-// Whether the image of the permanent memory is to be stored, and the number whose reason is to be told; 0 is none.
+// Whether the image of the permanent memory is to be stored, and the refusal whose reason is to be told.
 #[derive(Clone, Copy)]
 pub struct Due {
     pub store: bool,
-    pub reason: u8,
+    pub reason: Option<Refusal>,
 }
 
 pub fn nothing_due() -> Due
-    ensures { result ≡ record { store = false; reason = 0 } }
+    ensures { result ≡ nothing }
 {
     Due {
         store: false,
-        reason: 0,
+        reason: None,
     }
 }
 
-fn store_due(k: Manner, deed: Deed) -> bool
-    ensures { result ≡ k.storing && saving deed }
+// What is due behind a line that was settled.
+pub fn due_of(k: Manner, settled: Result<Step, Refusal>) -> Due
+    ensures { result ≡ due_by k settled }
 {
-    if k.storing {
-        return saves(deed);
+    match settled {
+        Ok(step) => Due {
+            store: k.storing && saves(step.deed),
+            reason: None,
+        },
+        Err(why) => Due {
+            store: false,
+            reason: k.explaining.then_some(why),
+        },
     }
-    false
-}
-
-fn reason_due(k: Manner, number: u8) -> u8
-    ensures { result ≡ cond k.explaining number 0 }
-{
-    if k.explaining { number } else { 0 }
-}
-
-// What is due behind a line with this number, of which this deed was decided.
-pub fn due_of(k: Manner, number: u8, deed: Deed) -> Due
-    ensures { result ≡ record { store = k.storing && saving deed; reason = cond k.explaining number 0 } }
-{
-    let store = store_due(k, deed);
-    let reason = reason_due(k, number);
-    Due { store, reason }
 }
 
 // Something is due: no further line is answered before it is done.
 pub fn is_due(d: Due) -> bool
-    ensures { result ≡ d.store || not (eqb d.reason 0) }
+    ensures { result ≡ d.store || is_some d.reason }
 {
-    if d.store {
-        return true;
-    }
-    d.reason != 0
+    d.store || d.reason.is_some()
 }

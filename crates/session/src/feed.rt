@@ -1,21 +1,23 @@
 // A block of input, fed to the machine line by line.
-ghost use Rattle.std.specs.Prelude.{◌≡◌, [], ◌≤◌, length, take};
+ghost use Rattle.std.specs.Prelude.{◌≡◌, ◌≤◌, length};
 ghost use Rattle.model.specs.Limits.{buffer_limit};
 ghost use Rattle.model.specs.Stored.{FineState};
-ghost use Rattle.model.specs.Tally.{empty_tally, Sums};
+ghost use Rattle.model.specs.Tally.{empty_tally};
+ghost use Rattle.engine.specs.Taken.{deed_of};
 ghost use Rattle.tally.specs.Counts.{tally_of};
-ghost use Rattle.session.specs.Feed.{enough};
 ghost use Rattle.session.specs.Blocks.{Begins, Answers, Feeds, Ends};
 
-use crate::cut::{Kept, keep};
+use crate::cut::{Kept, keep, nothing_held};
 use crate::due::{Due, Manner, due_of, nothing_due};
 use crate::run::{run_lines, say};
-use commands::changed::{applied, settled};
-use engine::line::decide;
-use facts::limits::ENOUGH;
+use commands::changed::{Deed, applied};
+use engine::answer::Step;
+use engine::line::{decide, settled};
+use facts::refusals::{Refusal, number_told};
 use lines::line_end;
 use model::State;
-use tally::{Tally, count};
+use tally::Tally;
+use tally::counting::{count, empty};
 
 // Between two blocks: the state, the tally of the lines until now, and the bytes of a line that no block has ended yet.
 #[derive(Clone, Copy)]
@@ -25,7 +27,8 @@ pub struct Session {
     pub held: Kept,
 }
 
-// What a block left: the session, how many of its bytes were used, how many bytes of answers were written, and what is due behind them.
+// What feeding left: the session, how many bytes of the block were used (at the end of the input there is no block), how many bytes of answers were written,
+// and what is due behind the last of them.
 #[derive(Clone, Copy)]
 pub struct Fed {
     pub session: Session,
@@ -34,31 +37,15 @@ pub struct Fed {
     pub due: Due,
 }
 
-// One line answered: the next state, the tally with it, how many bytes were written, and what is due behind them.
-#[derive(Clone, Copy)]
-pub struct Answer {
-    pub state: State,
-    pub tally: Tally,
-    pub written: usize,
-    pub due: Due,
-}
-
-fn nothing_held() -> Kept
-    ensures { result.count ≡ 0 }
-{
-    Kept {
-        bytes: [0u8; ENOUGH],
-        count: 0,
-    }
-}
-
 // A session begins with nothing counted and nothing held.
 pub fn begin_from(state: State) -> Session
     ensures { (result.state ≡ state) × (tally_of result.tally ≡ empty_tally) × (result.held.count ≡ 0) }
 {
-    let tally = tally::empty();
-    let held = nothing_held();
-    Session { state, tally, held }
+    Session {
+        state,
+        tally: empty(),
+        held: nothing_held(),
+    }
 }
 
 // ksrun's begins at the factory.
@@ -68,150 +55,116 @@ pub fn begin() -> Session
     begin_from(machine::start_factory())
 }
 
-// The reply as it is, or E and the number.
-fn answer_line(k: Manner, s: State, t: Tally, line: &[u8], out: &mut [u8]) -> Answer
-    requires fine_state { FineState s }
-    requires sums { Sums (tally_of t) }
-    requires buffer_limit_in_bounds { buffer_limit ≤ length out.old }
-    ensures { Answers k s t line.now out.old out.new result }
+// What is done, without what was written.
+fn deed_of(settled: Result<Step, Refusal>) -> Result<Deed, Refusal>
+    ensures { result ≡ deed_of settled }
 {
-    let m = s.volatile;
-    let step = decide(m, s.position, s.level, s.error, line, out);
-    let decision = step.decision;
-    let number = settled(s.permanent, decision);
-    let written = say(number, step.length, out);
-    let deed = decision.deed;
-    let due = due_of(k, number, deed);
-    let state = applied(s, decision, number);
-    let tally = count(t, number);
-    Answer {
-        state,
-        tally,
+    settled.map(|step| step.deed)
+}
+
+// The reply as it is, or E and the number; then what was decided is done.
+fn answer_line(k: Manner, s: Session, line: &[u8], out: &mut [u8]) -> Fed
+    requires fine_state { FineState s.state }
+    requires buffer_limit_in_bounds { buffer_limit ≤ length out.old }
+    ensures { Answers k s line.now out.old out.new result }
+{
+    let before = s.state;
+    let decided = decide(
+        before.volatile,
+        before.position,
+        before.level,
+        before.error,
+        line,
+        out,
+    );
+    let done = settled(before.permanent, decided);
+    let written = say(done, out);
+    let state = applied(before, deed_of(done));
+    let tally = count(s.tally, number_told(done));
+    Fed {
+        session: Session {
+            state,
+            tally,
+            held: nothing_held(),
+        },
+        used: 0,
         written,
-        due,
+        due: due_of(k, done),
     }
 }
 
 // Whole lines from the start of a block on, while there is room for answers and nothing is due. What is left without an LF is held.
-fn whole_lines(k: Manner, s: State, t: Tally, block: &[u8], out: &mut [u8]) -> Fed
-    requires fine_state { FineState s }
-    requires sums { Sums (tally_of t) }
+fn whole_lines(k: Manner, s: Session, block: &[u8], out: &mut [u8]) -> Fed
+    requires fine_state { FineState s.state }
+    requires nothing_held { s.held.count ≡ 0 }
     requires buffer_limit_in_bounds { buffer_limit ≤ length out.old }
-    ensures { Feeds k s t [] block.now out.old out.new result }
+    ensures { Feeds k s block.now out.old out.new result }
 {
-    let r = run_lines(k, s, t, block, out);
-    let state = r.state;
-    let tally = r.tally;
-    let at = r.used;
-    let written = r.written;
-    let due = r.due;
-    let end = line_end(block, at);
+    let fed = run_lines(k, s, block, out);
+    let end = line_end(block, fed.used);
     if end == block.len() {
-        let held = keep(nothing_held(), &block[at..]);
-        let session = Session { state, tally, held };
+        let held = keep(s.held, &block[fed.used..]);
         return Fed {
-            session,
+            session: Session {
+                held,
+                ..fed.session
+            },
             used: end,
-            written,
-            due,
+            ..fed
         };
     }
-    let held = nothing_held();
-    let session = Session { state, tally, held };
-    Fed {
-        session,
-        used: at,
-        written,
-        due,
-    }
+    fed
 }
 
 // A block that begins within a line: as far as that line goes.
 fn held_line(k: Manner, s: Session, block: &[u8], out: &mut [u8]) -> Fed
     requires fine_state { FineState s.state }
-    requires sums { Sums (tally_of s.tally) }
-    requires count_le_enough { s.held.count ≤ enough }
     requires buffer_limit_in_bounds { buffer_limit ≤ length out.old }
-    ensures { Feeds k s.state s.tally (take s.held.count s.held.bytes) block.now out.old out.new result }
+    ensures { Feeds k s block.now out.old out.new result }
 {
-    let held = s.held;
-    let state = s.state;
-    let tally = s.tally;
     let end = line_end(block, 0);
-    let line = keep(held, &block[..end]);
+    let held = keep(s.held, &block[..end]);
     if end == block.len() {
-        let session = Session {
-            state,
-            tally,
-            held: line,
-        };
-        let due = nothing_due();
         return Fed {
-            session,
+            session: Session { held, ..s },
             used: end,
             written: 0,
-            due,
+            due: nothing_due(),
         };
     }
-    let bytes = line.bytes;
-    let count = line.count;
-    let a = answer_line(k, state, tally, &bytes[..count], out);
-    let after = a.state;
-    let counted = a.tally;
-    let due = a.due;
-    let nothing = nothing_held();
-    let session = Session {
-        state: after,
-        tally: counted,
-        held: nothing,
-    };
-    let used = end + 1;
+    let answered = answer_line(k, s, held.line(), out);
     Fed {
-        session,
-        used,
-        written: a.written,
-        due,
+        used: end + 1,
+        ..answered
     }
 }
 
 // A block: the line that was held, if there is one, or else whole lines.
 pub fn feed(k: Manner, s: Session, block: &[u8], out: &mut [u8]) -> Fed
     requires fine_state { FineState s.state }
-    requires sums { Sums (tally_of s.tally) }
-    requires count_le_enough { s.held.count ≤ enough }
     requires buffer_limit_in_bounds { buffer_limit ≤ length out.old }
-    ensures { Feeds k s.state s.tally (take s.held.count s.held.bytes) block.now out.old out.new result }
+    ensures { Feeds k s block.now out.old out.new result }
 {
-    let held = s.held;
-    if held.count != 0 {
-        return held_line(k, s, block, out);
+    if s.held.count == 0 {
+        whole_lines(k, s, block, out)
+    } else {
+        held_line(k, s, block, out)
     }
-    let state = s.state;
-    let tally = s.tally;
-    whole_lines(k, state, tally, block, out)
 }
 
 // The end of the input: a line that no LF has ended is answered too, and something may be due behind it.
-pub fn finish(k: Manner, s: Session, out: &mut [u8]) -> Answer
+pub fn finish(k: Manner, s: Session, out: &mut [u8]) -> Fed
     requires fine_state { FineState s.state }
-    requires sums { Sums (tally_of s.tally) }
-    requires count_le_enough { s.held.count ≤ enough }
     requires buffer_limit_in_bounds { buffer_limit ≤ length out.old }
     ensures { Ends k s out.old out.new result }
 {
-    let held = s.held;
-    let state = s.state;
-    let tally = s.tally;
-    let bytes = held.bytes;
-    let count = held.count;
-    if count == 0 {
-        let due = nothing_due();
-        return Answer {
-            state,
-            tally,
+    if s.held.count == 0 {
+        return Fed {
+            session: s,
+            used: 0,
             written: 0,
-            due,
+            due: nothing_due(),
         };
     }
-    answer_line(k, state, tally, &bytes[..count], out)
+    answer_line(k, s, s.held.line(), out)
 }

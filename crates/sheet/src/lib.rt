@@ -21,7 +21,7 @@ fn put_whole_degrees(out: &mut [u8], at: usize, quarters: u8) -> usize
     requires { at + length (whole_degrees quarters) ≤ length out.old }
     ensures { Wrote (whole_degrees quarters) out.old at out.new result }
 {
-    put_decimal(out, at, quarters as u64 * QUARTER_TURN / MILLION)
+    put_decimal(out, at, u64::from(quarters) * QUARTER_TURN / MILLION)
 }
 
 // The angles of a triple, one space between.
@@ -54,25 +54,23 @@ pub fn put_sheet(out: &mut [u8]) -> usize
     ensures { Wrote sheet out.old 0 out.new result }
 {
     let mut at = 0;
-    let mut k = 0;
-    while k < TRIPLES {
+    for k in 0..TRIPLES {
         at = put_line(out, at, triple_at(k));
-        k += 1;
     }
     at
 }
 
 // What is handed to standard output is the sheet.
-fn write_sheet(rt: HostRuntime, text: &[u8]) -> bool
+fn write_sheet(rt: HostRuntime, text: &[u8]) -> std::io::Result<()>
     requires { text.now ≡ sheet }
 {
-    Print::write_all(&rt.stdout(), text).is_ok()
+    Print::write_all(&rt.stdout(), text)
 }
 
 pub fn run(rt: HostRuntime) {
     let mut out = io::buffer();
     let n = put_sheet(&mut out);
-    if !write_sheet(rt, &out[..n]) {
+    if write_sheet(rt, &out[..n]).is_err() {
         let _ = Print::write_all(
             &rt.stderr(),
             b"kssheet: standard output cannot be written\n",

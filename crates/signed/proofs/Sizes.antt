@@ -1,8 +1,8 @@
 -- Signed numbers by their magnitudes: what fits, what the machine reads back, and negatives. The library lacks these laws.
-use mathlib.Core.Path.{◌≡◌, refl, ◌∙◌}
+use mathlib.Core.Path.{◌≡◌, refl}
 use Prim.Native.Nat.{zero, suc, ◌≤◌, ◌<◌, ◌^◌}
 use native.Mathlib.Omega.{arith}
-use lib.IntN.{ℤ, pos, negsuc, neg_ℤ, nat_abs, ◌-ℤ◌, +ℤ_idl}
+use lib.IntN.{ℤ, pos, negsuc, neg_ℤ, nat_abs}
 use lib.Signed.{mag}
 use mir.Syntax.{w64}
 use mir.Val.{SFits, to_z, of_z}
@@ -26,11 +26,3 @@ read z = to_z w64 (of_z w64 z)
 
 pub back : (z : ℤ) → nat_abs z < 2 ^ 63 → read z ≡ z
 back z h = to_z-of_z (small_fits z h)
-
--- `-p` is checked as 0 - p
-module _ (p : ℤ) (h : nat_abs p < 2 ^ 63) where
-  pub neg_fits : SFits w64 (pos 0 -ℤ read p)
-  neg_fits = rw (back p h, +ℤ_idl (neg_ℤ p)) (small_fits (neg_ℤ p) (omega (arith, nat_abs_neg p)))
-
-  pub neg_reads : read (pos 0 -ℤ read p) ≡ neg_ℤ p
-  neg_reads = to_z-of_z neg_fits ∙ rw (back p h) (+ℤ_idl (neg_ℤ p))

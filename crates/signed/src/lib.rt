@@ -1,4 +1,4 @@
-// Numbers of the machine in another form: a signed one negated, or without its sign, and a byte among the wide ones.
+// Signed numbers of the machine in another form: negated, or without their sign.
 #![tactic(auto)]
 
 ghost use Rattle.std.specs.Prelude.{◌≡◌, ◌<◌, ◌^◌, nat_abs, neg_ℤ};
@@ -10,19 +10,9 @@ pub fn negated(z: i64) -> i64
     -z
 }
 
-// Without its sign. One is added first, since the lowest number's negative does not fit.
+// Without its sign.
 pub fn magnitude(z: i64) -> u64
     ensures { result ≡ nat_abs z }
 {
-    if z < 0 {
-        let m = -(z + 1);
-        return m as u64 + 1;
-    }
-    z as u64
-}
-
-pub fn wide(b: u8) -> u64
-    ensures { result ≡ b }
-{
-    b as u64
+    z.unsigned_abs()
 }

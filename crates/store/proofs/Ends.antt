@@ -1,81 +1,68 @@
 -- Laws of the end of a number, and of a mark's two ends; and that a written mark is read back.
-use Prim.Native.Nat.{ℕ, zero, suc, ◌+◌, ◌-◌, ◌/◌, ◌%◌, ◌^◌, ◌≤◌, ◌<◌}
+use Prim.Native.Nat.{ℕ, zero, suc, ◌+◌, ◌/◌, ◌%◌, ◌^◌, ◌≤◌, ◌<◌}
 use mathlib.Core.Path.{◌≡◌, refl, sym, ap, ◌∙◌}
 use mathlib.Core.List.{List, [], ◌∷◌, ◌++◌, append_assoc}
 use mathlib.Core.Bool.{Bool, true, false, cond}
 use native.Mathlib.Omega.{arith}
 use borrow.Author.Tests.{eq-eqb, ne_eqb, lt-ltb, le-ltb, le-leb}
-use lib.Dec.{eqb, ltb}
+use lib.Dec.{eqb}
 use lib.ListN.{length, drop, get_or, length-append}
 use lib.Seq.{drop-append_seam, get_or-append-add, get_or-append_seam}
+use Rattle.std.proofs.Common.{Some, None, zero-add}
 use Rattle.model.specs.Lists.{joined, between}
 use Rattle.model.specs.Reply.{decimal, last_digits, digits_of}
 use Rattle.model.proofs.Digits.{length_digits, decimal_short}
-use Rattle.store.specs.declared.mark.Mark.{Mark}
-use Rattle.store.specs.Mark.{longest_number, mark_text, leading_digits, number_end, mark_at, mark_of, ReadsBack}
+use Rattle.store.specs.Mark.{longest_number, mark_text, leading_digits, number_end, mark_of, ReadsBack}
 
--- ---- the tests, one after the other, by the place where the digits end
+-- ---- the tests, one after the other, by how many digits there are
 
-module _ (text : List ℕ) (from stop end : ℕ) (e : end ≡ from + leading_digits (drop from text)) where
-  abbrev d : ℕ
-  d = leading_digits (drop from text)
-
-  pub no_digit : end ≡ from → 0 ≡ number_end text from stop
+module _ (text : List ℕ) (from stop n : ℕ) (e : n ≡ leading_digits (drop from text)) where
+  pub no_digit : n ≡ 0 → None ≡ number_end text from stop
   unfolding number_end
-  no_digit h = rw (eq-eqb d 0 (omega arith))
+  no_digit h = rw (← e, h)
 
-  module _ (some : end ≡ from → ⊥) where
-    one : eqb d 0 ≡ false
-    one = ne_eqb d 0 (λ z. some (omega arith))
-
-    pub nothing_behind : end ≡ length text → 0 ≡ number_end text from stop
+  module _ (some : n ≡ 0 → ⊥) where
+    pub too_long : longest_number < n → None ≡ number_end text from stop
     unfolding number_end
-    nothing_behind h = rw (one, eq-eqb (from + d) (length text) (omega arith))
+    too_long h = rw (← e, ne_eqb n 0 some, lt-ltb longest_number n h)
 
-    module _ (more : end ≡ length text → ⊥) where
-      two : eqb (from + d) (length text) ≡ false
-      two = ne_eqb (from + d) (length text) (λ z. more (omega arith))
-
-      pub too_long : longest_number < end - from → 0 ≡ number_end text from stop
+    module _ (short : n ≤ longest_number) where
+      pub nothing_behind : length text ≤ from + n → from + n ≤ length text → None ≡ number_end text from stop
       unfolding number_end
-      too_long h = rw (one, two, lt-ltb longest_number d (omega arith))
+      nothing_behind h k = rw (← e, ne_eqb n 0 some, le-ltb longest_number n short, eq-eqb (from + n) (length text) (omega arith))
 
-      module _ (short : end - from ≤ longest_number) where
-        three : ltb longest_number d ≡ false
-        three = le-ltb longest_number d (omega arith)
+      module _ (more : from + n < length text) where
+        behind : eqb (from + n) (length text) ≡ false
+        behind = ne_eqb (from + n) (length text) (λ z. absurd (omega arith))
 
-        pub other_byte : (get_or text end 0 ≡ stop → ⊥) → 0 ≡ number_end text from stop
+        pub other_byte : (get_or text (from + n) 0 ≡ stop → ⊥) → None ≡ number_end text from stop
         unfolding number_end
-        other_byte h = rw (one, two, three, ne_eqb (get_or text (from + d) 0) stop (rw e at h))
+        other_byte h = rw (← e, ne_eqb n 0 some, le-ltb longest_number n short, behind, ne_eqb (get_or text (from + n) 0) stop h)
 
-        pub number_found : get_or text end 0 ≡ stop → end ≡ number_end text from stop
+        pub number_found : get_or text (from + n) 0 ≡ stop → Some (from + n) ≡ number_end text from stop
         unfolding number_end
-        number_found h = rw (one, two, three, eq-eqb (get_or text (from + d) 0) stop (rw e at h)) e
+        number_found h = rw (← e, ne_eqb n 0 some, le-ltb longest_number n short, behind, eq-eqb (get_or text (from + n) 0) stop h)
 
 -- ---- the two ends
 
 module _ (text : List ℕ) where
-  pub mark_none : (a b : ℕ) → a ≡ 0 → Mark.Other ≡ mark_at text a b
-  mark_none a b e = rw e
-
-  pub mark_half : (a b : ℕ) → b ≡ 0 → Mark.Other ≡ mark_at text a b
-  mark_half zero b e = refl
-  mark_half (suc a) b e = rw e
-
-  pub mark_more : (a b : ℕ) → (b + 1 ≡ length text → ⊥) → Mark.Other ≡ mark_at text a b
-  mark_more zero b h = refl
-  mark_more (suc a) zero h = refl
-  mark_more (suc a) (suc b) h = rw (ne_eqb (suc b + 1) (length text) h)
-
-  pub mark_both : (a b : ℕ) → 0 < a → 0 < b → b + 1 ≡ length text → Mark.Ends a b ≡ mark_at text a b
-  mark_both zero b p q h = absurd (omega arith)
-  mark_both (suc a) zero p q h = absurd (omega arith)
-  mark_both (suc a) (suc b) p q h = rw (eq-eqb (suc b + 1) (length text) h)
-
-  -- the ends are those of the definition
-  pub mark_of_lem : (a b : ℕ) → a ≡ number_end text 0 32 → b ≡ number_end text (a + 1) 10 → mark_at text a b ≡ mark_of text
+  pub no_first : None ≡ number_end text 0 32 → None ≡ mark_of text
   unfolding mark_of
-  mark_of_lem a b ea eb = rw (← ea, ← eb)
+  no_first e = rw (← e)
+
+  module _ (a : ℕ) (first : Some a ≡ number_end text 0 32) where
+    pub no_second : None ≡ number_end text (a + 1) 10 → None ≡ mark_of text
+    unfolding mark_of
+    no_second e = rw (← first, ← e)
+
+    module _ (b : ℕ) (second : Some b ≡ number_end text (a + 1) 10) where
+      pub more_behind : (b + 1 ≡ length text → ⊥) → None ≡ mark_of text
+      unfolding mark_of
+      more_behind h = rw (← first, ← second, ne_eqb (b + 1) (length text) h)
+
+      pub both_ends : b + 1 ≡ length text → Some (a, b) ≡ mark_of text
+      unfolding mark_of
+      both_ends h = rw (← first, ← second, eq-eqb (b + 1) (length text) h)
 
 -- ---- a number in a text
 
@@ -95,7 +82,7 @@ digits_then (b ∷ bs) r stop h e = go (digits_then bs r stop h) (between 48 57 
     go rest true e = ap suc (rest (omega arith))
     go rest false e = absurd (omega arith)
 
-number_at : (l m r : List ℕ) (stop : ℕ) → Number m → between 48 57 stop ≡ false → number_end (l ++ (m ++ (stop ∷ r))) (length l) stop ≡ length l + length m
+number_at : (l m r : List ℕ) (stop : ℕ) → Number m → between 48 57 stop ≡ false → number_end (l ++ (m ++ (stop ∷ r))) (length l) stop ≡ Some (length l + length m)
 number_at l m r stop n h =
     let x = m ++ (stop ∷ r) in
     let d : leading_digits (drop (length l) (l ++ x)) ≡ length m = rw (drop-append_seam l x) (digits_then m r stop h n.digits) in
@@ -106,11 +93,11 @@ number_at l m r stop n h =
     (l ++ x)
     (length l)
     stop
-    (length l + length m)
-    (omega arith)
+    (length m)
+    (sym d)
     (λ z. absurd (omega (arith, n.some)))
-    (λ z. absurd (omega (arith, long)))
-    (omega (arith, n.short))
+    n.short
+    (omega (arith, long))
     there)
 
 -- ---- the digits of a number
@@ -134,16 +121,16 @@ decimal_number n h =
 
 -- ---- a mark
 
-mark_read : (p f : List ℕ) → Number p → Number f → mark_of (mark_text p f) ≡ Mark.Ends (length p) (length p + 1 + length f)
-unfolding mark_of mark_text joined
+mark_read : (p f : List ℕ) → Number p → Number f → mark_of (mark_text p f) ≡ Some (length p, length p + 1 + length f)
+unfolding mark_text joined
 mark_read p f np nf =
     let text = p ++ (32 ∷ (f ++ (10 ∷ []))) in
-    let a : number_end text 0 32 ≡ length p = number_at [] p (f ++ (10 ∷ [])) 32 np refl ∙ omega arith in
+    let a : number_end text 0 32 ≡ Some (length p) = number_at [] p (f ++ (10 ∷ [])) 32 np refl ∙ ap Some (zero-add (length p)) in
     let split : text ≡ (p ++ (32 ∷ [])) ++ (f ++ (10 ∷ [])) = sym (append_assoc p (32 ∷ []) (f ++ (10 ∷ []))) in
     let first : length (p ++ (32 ∷ [])) ≡ length p + 1 = rw length-append in
-    let b : number_end text (length p + 1) 10 ≡ length p + 1 + length f = rw (split, ← first) (number_at (p ++ (32 ∷ [])) f [] 10 nf refl) in
+    let b : number_end text (length p + 1) 10 ≡ Some (length p + 1 + length f) = rw (split, ← first) (number_at (p ++ (32 ∷ [])) f [] 10 nf refl) in
     let long : length text ≡ length p + suc (length f + 1) = rw (length-append, length-append) in
-    rw (a, b) (sym (mark_both text (length p) (length p + 1 + length f) np.some (omega arith) (omega (arith, long))))
+    sym (both_ends text (length p) (sym a) (length p + 1 + length f) (sym b) (omega (arith, long)))
 
 pub reads_back : ReadsBack
 reads_back p f hp hf = mark_read (decimal p) (decimal f) (decimal_number p hp) (decimal_number f hf)

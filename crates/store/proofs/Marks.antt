@@ -1,52 +1,38 @@
--- Laws of the digits that a text begins with, and of a number's sign.
-use Prim.Native.Nat.{ℕ, suc, ◌+◌, ◌≤◌, ◌<◌}
-use mathlib.Core.Path.{◌≡◌, refl, subst}
-use mathlib.Core.List.{List, []}
+-- Laws of the digits that a text begins with, and of a number's digits.
+use Prim.Native.Nat.{ℕ, zero, suc, ◌<◌, ◌≤◌, ◌^◌}
+use mathlib.Core.Path.{◌≡◌, refl, sym, ap}
+use mathlib.Core.List.{List, [], ◌∷◌}
 use mathlib.Core.Bool.{true, false}
-use native.Mathlib.Numerals.{add-one}
 use native.Mathlib.Omega.{arith}
-use borrow.Author.Tests.{ltb-true}
-use lib.Dec.{T}
 use lib.IntN.{ℤ, pos, negsuc, nat_abs}
-use lib.Signed.{lt_z, non_neg}
-use lib.ListN.{length, drop, get_or, drop_of_length-le}
-use lib.Seq.{drop-cons}
+use lib.ListN.{length, get_or}
+use Rattle.std.specs.Int.{FitsUnsignedBits}
 use Rattle.model.specs.Lists.{between}
 use Rattle.model.specs.Reply.{decimal}
+use Rattle.model.proofs.Digits.{decimal_short}
 use Rattle.store.specs.Mark.{leading_digits, number_text}
 
--- a loop over a text: one digit on, another byte, and the end
-module _ (l : List ℕ) (i : ℕ) where
-  pub digit_next : i < length l → between 48 57 (get_or l i 0) ≡ true → leading_digits (drop i l) ≡ suc (leading_digits (drop (i + 1) l))
-  unfolding leading_digits
-  digit_next h e = rw (add-one, drop-cons l i 0, e)
+-- the first byte that is no digit, or none
+pub digits_first : (xs : List ℕ) (i : ℕ) → i < length xs → between 48 57 (get_or xs i 0) ≡ false → ((k : ℕ) → k < i → between 48 57 (get_or xs k 0) ≡ true) → leading_digits xs ≡ i
+unfolding leading_digits
+digits_first [] i h n d = absurd (omega arith)
+digits_first (b ∷ bs) zero h n d = rw n
+digits_first (b ∷ bs) (suc i) h n d = rw (d 0 (omega arith), digits_first bs i (omega arith) n (λ k l. d (suc k) (omega arith)))
 
-  pub digit_stop : i < length l → between 48 57 (get_or l i 0) ≡ false → leading_digits (drop i l) ≡ 0
-  unfolding leading_digits
-  digit_stop h e = rw (drop-cons l i 0, e)
+pub digits_whole : (xs : List ℕ) → ((k : ℕ) → k < length xs → between 48 57 (get_or xs k 0) ≡ true) → leading_digits xs ≡ length xs
+unfolding leading_digits
+digits_whole [] d = refl
+digits_whole (b ∷ bs) d = rw (d 0 (omega arith), digits_whole bs (λ k l. d (suc k) (omega arith)))
 
-  pub digit_end : length l ≤ i → leading_digits (drop i l) ≡ 0
-  unfolding leading_digits
-  digit_end h = rw (drop_of_length-le l h)
+-- ---- a number's digits
 
--- below zero, and not
-pub number_below : (z : ℤ) → lt_z z (pos 0) ≡ true → number_text z ≡ []
+-- one of 64 bits that is not below zero has 20 at most
+pub number_fits : (z : ℤ) (n : ℕ) → FitsUnsignedBits 64 z → n ≡ nat_abs z → (number_text z ≡ decimal n) × (length (decimal n) ≤ 20)
 unfolding number_text
-number_below (pos n) e = let h = ltb-true n 0 e in absurd (omega arith)
-number_below (negsuc n) e = refl
+number_fits (pos k) n f e = (ap decimal (sym e), decimal_short 20 n (omega arith) (omega arith))
+number_fits (negsuc k) n f e = absurd f
 
-module _ (z : ℤ) (e : lt_z z (pos 0) ≡ false) where
-  pub not_below : T (non_neg z)
-  not_below = sign z e
-    where
-      sign : (z : ℤ) → lt_z z (pos 0) ≡ false → T (non_neg z)
-      sign (pos n) e = tt
-      sign (negsuc n) e = subst T e tt
-
-  pub number_above : number_text z ≡ decimal (nat_abs z)
-  unfolding number_text
-  number_above = text z e
-    where
-      text : (z : ℤ) → lt_z z (pos 0) ≡ false → number_text z ≡ decimal (nat_abs z)
-      text (pos n) e = refl
-      text (negsuc n) e = absurd (subst T e tt)
+pub number_below : (z : ℤ) → nat_abs z < 2 ^ 64 → (FitsUnsignedBits 64 z → ⊥) → number_text z ≡ []
+unfolding number_text
+number_below (pos n) h f = absurd (f h)
+number_below (negsuc n) h f = refl

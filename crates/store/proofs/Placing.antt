@@ -2,29 +2,33 @@
 use Prim.Native.Nat.{ℕ, zero, suc, ◌+◌, ◌-◌, ◌≤◌, ◌<◌}
 use mathlib.Core.Path.{◌≡◌, refl, sym, ap, ◌∙◌}
 use mathlib.Core.List.{List, [], ◌∷◌, ◌++◌, append_assoc}
-use mathlib.Core.Bool.{Bool, true, false, cond}
+use mathlib.Core.Bool.{Bool, true, false, ◌&&◌}
 use native.Mathlib.Omega.{arith}
-use borrow.Author.Tests.{le-leb, lt-leb, eq-eqb, ne_eqb}
+use borrow.Author.Tests.{le-leb, lt-leb, ne_eqb}
 use lib.Dec.{eqb}
-use lib.ListN.{length, take, drop, get_or, length-append}
+use lib.ListN.{length, take, drop, get_or, length-append, length-drop}
 use lib.Seq.{length-take-le, take-take, drop-append_seam}
+use Rattle.std.proofs.Common.{Some, None, All, take-append-drop}
+use Rattle.std.proofs.lemmas.List.{drop_more, get_or-drop}
+use Rattle.std.proofs.lemmas.List.Elements.{All-head, All-tail, All-from_get_or}
+use Rattle.std.specs.List.{starts_with}
 use Rattle.io.specs.Counts.{IsPrefixLen}
 use Rattle.io.proofs.Counting.{prefix_len_of_le}
 use Rattle.model.specs.ImageClaims.{longest_image}
 use Rattle.print.specs.Over.{Wrote}
 use Rattle.print.proofs.Laws.{length_over, over_split, wrote_front}
-use Rattle.store.specs.Place.{Placed, slash, slash_at, slash_end, folder_at, is_rooted}
+use Rattle.store.specs.Place.{Placed, slash, slash_end, folder_at, is_rooted}
 use Rattle.store.specs.Load.{Image}
 
 -- ---- a text that fits, and one that does not
 
-pub placed : {t before after : List ℕ} {r : ℕ} → length t ≤ length before → Wrote t before 0 after r → Placed t before after r
+pub placed : {t before after : List ℕ} {r : ℕ} → length t ≤ length before → Wrote t before 0 after r → Placed t before after (Some r)
 placed {t} {before} h w =
     let e = le-leb (length t) (length before) h in
     let f = wrote_front h w in
-    record { count_is = rw e f.1; bytes = rw e f.0 }
+    record { count_is = rw e (ap Some f.1); bytes = rw e f.0 }
 
-pub unplaced : (t before : List ℕ) → length before < length t → Placed t before before 0
+pub unplaced : (t before : List ℕ) → length before < length t → Placed t before before None
 unplaced t before h = let e = lt-leb (length t) (length before) h in record { count_is = rw e; bytes = rw e }
 
 -- what was written lies in the buffer
@@ -46,57 +50,39 @@ module _ (p t : List ℕ) (n k : ℕ) (within : n ≤ length p) (part : k ≤ n)
   long = rw (length-append, front, length-take-le k p (omega arith))
 
   -- from place k on, it stands behind the first k bytes
-  pub placed_behind : {after : List ℕ} {r : ℕ} → k + length t ≤ length p → Wrote t p k after r → Placed (take k (take n p) ++ t) p after r
-  placed_behind h w =
+  pub placed_behind : {after : List ℕ} {r : ℕ} → k + length t ≤ length p → Wrote t p k after r → Placed (take k (take n p) ++ t) p after (Some r)
+  placed_behind {after} {r} h w =
       let e = le-leb (length (take k (take n p) ++ t)) (length p) (omega (arith, long)) in
       record {
-        count_is = rw e (omega (arith, w.place, long));
+        count_is = let r_is : r ≡ length (take k (take n p) ++ t) = omega (arith, w.place, long) in rw e (ap Some r_is);
         bytes = rw (e, long) (w.bytes ∙ over_split t p k h ∙ rw (front, append_assoc));
       }
 
-  pub unplaced_behind : length p - k < length t → Placed (take k (take n p) ++ t) p p 0
+  pub unplaced_behind : length p - k < length t → Placed (take k (take n p) ++ t) p p None
   unplaced_behind h = unplaced (take k (take n p) ++ t) p (omega (arith, long))
 
 -- ---- the last '/'
 
-slash_at_le : (b k n : ℕ) → k ≤ n → slash_at b k ≤ suc n
-slash_at_le b zero n h = pick (eqb b slash)
-  where
-    pick : (t : Bool) → cond t 1 0 ≤ suc n
-    pick true = omega arith
-    pick false = omega arith
-slash_at_le b (suc k) n h = omega arith
+-- the byte is none
+abbrev pub IsOther : ℕ → Type 0
+IsOther b = b ≡ slash → ⊥
 
-pub slash_le : (p : List ℕ) → slash_end p ≤ length p
+pub slash_none : (p : List ℕ) → All IsOther p → slash_end p ≡ 0
 unfolding slash_end
-slash_le [] = omega arith
-slash_le (b ∷ bs) = slash_at_le b (slash_end bs) (length bs) (slash_le bs)
+slash_none [] none = refl
+slash_none (b ∷ bs) none = rw (slash_none bs (All-tail IsOther b bs none), ne_eqb b slash (All-head IsOther b bs none))
 
-here : (p : List ℕ) (i : ℕ) → i < length p → get_or p i 0 ≡ slash → slash_end (take (suc i) p) ≡ suc i
+slash_then : (xs ys : List ℕ) → All IsOther ys → slash_end (xs ++ (slash ∷ ys)) ≡ suc (length xs)
 unfolding slash_end
-here [] i h e = absurd (omega arith)
-here (b ∷ bs) zero h e = rw (eq-eqb b slash e)
-here (b ∷ bs) (suc i) h e = rw (here bs i (omega arith) e)
+slash_then [] ys none = rw (slash_none ys none)
+slash_then (x ∷ xs) ys none = rw (slash_then xs ys none)
 
-not_here : (p : List ℕ) (i : ℕ) → i < length p → (get_or p i 0 ≡ slash → ⊥) → slash_end (take (suc i) p) ≡ slash_end (take i p)
-unfolding slash_end
-not_here [] i h e = absurd (omega arith)
-not_here (b ∷ bs) zero h e = rw (ne_eqb b slash e)
-not_here (b ∷ bs) (suc i) h e = rw (not_here bs i (omega arith) e)
-
--- a turn of the search from the end, and its hit
-module _ (p : List ℕ) (i : ℕ) (h : 0 < i) (l : i ≤ length p) where
-  abbrev before : ℕ
-  before = i - 1
-
-  one_more : i ≡ suc before
-  one_more = omega arith
-
-  pub slash_hit : get_or p before 0 ≡ slash → slash_end (take i p) ≡ i
-  slash_hit e = ap (λ (k : ℕ). slash_end (take k p)) one_more ∙ here p before (omega arith) e ∙ sym one_more
-
-  pub slash_miss : (get_or p before 0 ≡ slash → ⊥) → slash_end (take i p) ≡ slash_end (take before p)
-  slash_miss e = ap (λ (k : ℕ). slash_end (take k p)) one_more ∙ not_here p before (omega arith) e
+-- it is at this place, and at none behind it
+pub slash_last : (p : List ℕ) (i : ℕ) → i < length p → get_or p i 0 ≡ slash → ((k : ℕ) → i + 1 ≤ k → k < length p → get_or p k 0 ≡ slash → ⊥) → slash_end p ≡ i + 1
+slash_last p i inside here after =
+    let none : All IsOther (drop (i + 1) p) = All-from_get_or IsOther (drop (i + 1) p) 0 (λ k within. rw (get_or-drop (i + 1) p k 0) (after (i + 1 + k) (omega arith) (omega (arith, length-drop (i + 1) p)))) in
+    let split : p ≡ take i p ++ (slash ∷ drop (i + 1) p) = sym (take-append-drop i p) ∙ ap (λ (l : List ℕ). take i p ++ l) (drop_more p i 0 inside ∙ ap (λ (b : ℕ). b ∷ drop (i + 1) p) here) in
+    ap slash_end split ∙ slash_then (take i p) (drop (i + 1) p) none ∙ omega (arith, length-take-le i p (omega arith))
 
 -- ---- folders
 
@@ -108,15 +94,14 @@ folder_deep p (suc (suc k)) h = let e : suc k ≡ suc (suc k) - 1 = omega arith 
 
 -- ---- rooted paths
 
-pub rooted_none : (p : List ℕ) → length p ≡ 0 → false ≡ is_rooted p
+pub rooted_starts : (t : List ℕ) → starts_with eqb t (slash ∷ []) ≡ is_rooted t
 unfolding is_rooted
-rooted_none [] e = refl
-rooted_none (b ∷ bs) e = absurd (omega arith)
-
-pub rooted_first : (p : List ℕ) → eqb (get_or p 0 0) slash ≡ is_rooted p
-unfolding is_rooted
-rooted_first [] = refl
-rooted_first (b ∷ bs) = refl
+rooted_starts [] = refl
+rooted_starts (b ∷ bs) = and_true (eqb slash b)
+  where
+    and_true : (t : Bool) → (t && true) ≡ t
+    and_true true = refl
+    and_true false = refl
 
 -- ---- an image
 

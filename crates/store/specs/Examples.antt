@@ -1,7 +1,6 @@
 -- Places and marks by examples. The statements only; proofs/Examples.antt computes them.
-use Rattle.std.specs.Prelude.{◌≡◌}
+use Rattle.std.specs.Prelude.{◌≡◌, Some, None}
 use Rattle.model.specs.Ascii.{ascii}
-use Rattle.store.specs.declared.mark.Mark.{Mark}
 use Rattle.store.specs.Place.{folder_of, target_of}
 use Rattle.store.specs.Mark.{shown_as, mark_of}
 
@@ -18,8 +17,8 @@ pub record Examples : Type 0 where
   pub from_root : target_of (ascii "bench/link") (ascii "/image") ≡ ascii "/image"
   -- a descriptor's name, and a lock's mark
   pub shown : shown_as (ascii "4711") (ascii "3") ≡ ascii "/proc/4711/fd/3"
-  pub read : mark_of (ascii "4711 3\n") ≡ Mark.Ends 4 6
-  pub no_end : mark_of (ascii "4711 3") ≡ Mark.Other
-  pub no_process : mark_of (ascii " 3\n") ≡ Mark.Other
-  pub more_behind : mark_of (ascii "4711 3\n\n") ≡ Mark.Other
-  pub no_number : mark_of (ascii "self 3\n") ≡ Mark.Other
+  pub read : mark_of (ascii "4711 3\n") ≡ Some (4, 6)
+  pub no_end : mark_of (ascii "4711 3") ≡ None
+  pub no_process : mark_of (ascii " 3\n") ≡ None
+  pub more_behind : mark_of (ascii "4711 3\n\n") ≡ None
+  pub no_number : mark_of (ascii "self 3\n") ≡ None

@@ -1,8 +1,7 @@
--- What reading a file leaves in the buffers.
-use Rattle.std.specs.Prelude.{ℕ, ◌≤◌, ◌≡◌, List, length, drop}
+-- What reading a file leaves in the buffer.
+use Rattle.std.specs.Prelude.{ℕ, ◌≤◌, ◌≡◌, List, length, drop, Option, Some, None, Result, Ok, Err}
 use Rattle.model.specs.ImageClaims.{longest_image}
-use Rattle.store.specs.declared.load.Loaded.{Loaded}
-use Rattle.store.specs.declared.load.Filled.{Filled}
+use Rattle.store.specs.declared.say.Complained.{Complained}
 
 -- some bytes from byte 0 on, no more than an image has, and the later ones as they were; without an image, all are as they were
 pub record Image (before after : List ℕ) (n : ℕ) : Type 0 where
@@ -11,12 +10,13 @@ pub record Image (before after : List ℕ) (n : ℕ) : Type 0 where
   pub long : length after ≡ length before
   pub later : drop n after ≡ drop n before
 
-abbrev pub Loads : List ℕ → List ℕ → Loaded → Type 0
-Loads before after Loaded.Missing = after ≡ before
-Loads before after (Loaded.Bytes n) = Image before after n
-Loads before after Loaded.Failed = after ≡ before
+-- a file that is there
+abbrev pub Opens : List ℕ → List ℕ → Result ℕ Complained → Type 0
+Opens before after (Ok n) = Image before after n
+Opens before after (Err e) = after ≡ before
 
--- what was read lies in the room
-abbrev pub Fills : List ℕ → List ℕ → Filled → Type 0
-Fills before after (Filled.Bytes n) = n ≤ length after
-Fills before after (Filled.Broken e) = Unit {0}
+-- one that may be there
+abbrev pub Loads : List ℕ → List ℕ → Result (Option ℕ) Complained → Type 0
+Loads before after (Ok None) = after ≡ before
+Loads before after (Ok (Some n)) = Image before after n
+Loads before after (Err e) = after ≡ before

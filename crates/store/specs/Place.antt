@@ -1,13 +1,13 @@
 -- Places of files, as texts: what stands beside a path, the folder that holds it, and what a link's text means.
 use Rattle.model.specs.Base.{ℕ, zero, suc, List, [], Bool, false, cond, eqb, leb, length, take}
-use Rattle.std.specs.Prelude.{◌≤◌, ◌≡◌, ◌∷◌, ◌++◌}
+use Rattle.std.specs.Prelude.{◌≤◌, ◌≡◌, ◌∷◌, ◌++◌, Option, Some, None, Result, Ok, Err}
 use Rattle.model.specs.Ascii.{ascii}
 use Rattle.model.specs.Machine.{written}
-use Rattle.store.specs.declared.place.Step.{Step}
+use Rattle.store.specs.declared.say.Complained.{Complained}
 
--- a text from byte 0 on and its length, and the later bytes as they were; or, where it does not fit, 0 and all bytes as they were
-pub record Placed (text before after : List ℕ) (count : ℕ) : Type 0 where
-  pub count_is : count ≡ cond (leb (length text) (length before)) (length text) 0
+-- a text from byte 0 on and its length, and the later bytes as they were; or, where it does not fit, none and all bytes as they were
+pub record Placed (text before after : List ℕ) (count : Option ℕ) : Type 0 where
+  pub count_is : count ≡ cond (leb (length text) (length before)) (Some (length text)) None
   pub bytes : after ≡ cond (leb (length text) (length before)) (written text before) before
 
 -- a path with the longest suffix, `.saving`, and the 0 that ends it has no more than 4096 bytes
@@ -40,7 +40,7 @@ folder_of p = folder_at p (slash_end p)
 -- it begins at the root
 unfoldable pub is_rooted : List ℕ → Bool
 is_rooted [] = false
-is_rooted (b ∷ bs) = eqb b slash
+is_rooted (b ∷ bs) = eqb slash b
 
 -- a link's text is a path from the root, or one from the link's folder
 unfoldable pub link_start : List ℕ → List ℕ → ℕ
@@ -50,8 +50,7 @@ unfoldable pub target_of : List ℕ → List ℕ → List ℕ
 target_of p t = take (link_start p t) p ++ t
 
 -- a path that a link was followed to lies in its buffer
-abbrev pub Steps : List ℕ → Step → Type 0
-Steps after (Step.To n) = n ≤ length after
-Steps after Step.File = Unit {0}
-Steps after Step.Long = Unit {0}
-Steps after Step.Unread = Unit {0}
+abbrev pub Follows : List ℕ → Result (Option ℕ) Complained → Type 0
+Follows after (Ok (Some n)) = n ≤ length after
+Follows after (Ok None) = Unit {0}
+Follows after (Err e) = Unit {0}

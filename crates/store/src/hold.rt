@@ -4,36 +4,30 @@ ghost use Rattle.std.specs.Prelude.{◌≤◌, length};
 ghost use Rattle.io.specs.Counts.{IsPrefixLen};
 ghost use Rattle.std.specs.Io.{ReadsAtMost};
 ghost use Rattle.store.specs.Mark.{Short, Marked, longest_number};
-ghost use Rattle.store.specs.declared.mark.Mark.{Mark as Mark};
 
-use crate::mark::{DIGITS, Mark, ROOM, digits, put_mark, put_program, put_shown, read_mark};
+use crate::mark::{DIGITS, ROOM, digits, put_mark, put_program, put_shown, read_mark};
 use crate::place::beside;
 use crate::reach::{
-    S_IFMT, S_IFREG, create, is_same_file, is_unlinked, is_unreadable, link_text, mode_of,
-    open_read, unlink,
+    create, found, is_same_file, is_unlinked, is_unreadable, link_text, open_read, unlink,
 };
-use crate::say::{complain, complain_taken, complain_unknown, complain_why};
+use crate::say::{Complained, complain, complain_taken, complain_unknown, complain_why};
 use std::fs::File;
 use std::io::{Error, ErrorKind, Write};
 use std::os::fd::AsRawFd;
 use std::os::unix::fs::FileExt;
 use std::process;
 use std::thread::yield_now;
-use text::names::same_bytes;
 
 // How often a lock is looked at again that may be on its way: an empty one, whose maker writes its mark at once, but perhaps not before it is read here; and
 // one whose maker is just being ended. That is some tenths of a second.
 const TURNS: u32 = 30000;
 
-// The lock is held, as long as this file is open; another program has it, and a complaint was made; or none can be made here now, as on a full disk.
-#[derive(Drop)]
-pub enum Lock {
-    Held(File),
-    Taken,
-    Without,
-}
+// A lock is there already: another program has it, or it was left behind.
+#[derive(Clone, Copy)]
+struct Taken;
 
-// The process that a lock names: it still has the lock open; it does not; or that cannot be told.
+// The process that a lock names: it still has the lock open; it does not; or that cannot be told. None of the three is a failure of the question, so this is no
+// Result.
 #[derive(Clone, Copy)]
 enum Maker {
     Runs,
@@ -64,15 +58,10 @@ fn shown_here(rt: HostRuntime, file: &File, out: &mut [u8]) -> std::io::Result<u
 // had as text, the file itself is asked how many names it has.
 pub(crate) fn nameless(rt: HostRuntime, file: &File) -> bool {
     let mut path = io::buffer();
-    let n = match shown_here(rt, file, &mut path) {
-        Ok(n) => n,
-        Err(e) => return is_unreadable(e) && is_unlinked(file),
-    };
-    if n == 0 {
-        return false;
+    match shown_here(rt, file, &mut path) {
+        Ok(n) => path[..n].ends_with(b")"),
+        Err(e) => is_unreadable(e) && is_unlinked(file),
     }
-    let last = n - 1;
-    path[last] == b')'
 }
 
 // The maker's descriptor is not shown: it is not there, or may not be seen. A process that was killed, and that its parent has not yet waited for, shows none even
@@ -87,13 +76,8 @@ fn unshown(rt: HostRuntime, process: &[u8], why: Error) -> Maker
     let n = put_program(process, &mut name);
     let mut text = [0u8; 1];
     match link_text(rt, &name[..n], &mut text) {
-        Ok(_) => Maker::Unknown,
-        Err(e) => {
-            if e.kind() == ErrorKind::NotFound {
-                return Maker::Gone;
-            }
-            Maker::Unknown
-        }
+        Err(e) if e.kind() == ErrorKind::NotFound => Maker::Gone,
+        _ => Maker::Unknown,
     }
 }
 
@@ -116,18 +100,10 @@ fn compared(rt: HostRuntime, process: &[u8], number: &[u8], path: &[u8], file: &
 {
     let mut theirs = io::buffer();
     match shown(rt, process, number, &mut theirs) {
-        Ok(n) => {
-            if same_bytes(path, &theirs[..n]) {
-                return Maker::Runs;
-            }
-            Maker::Gone
-        }
-        Err(e) => {
-            if is_unreadable(e) {
-                return compared_by_file(rt, process, number, file);
-            }
-            unshown(rt, process, e)
-        }
+        Ok(n) if path == &theirs[..n] => Maker::Runs,
+        Ok(_) => Maker::Gone,
+        Err(e) if is_unreadable(e) => compared_by_file(rt, process, number, file),
+        Err(e) => unshown(rt, process, e),
     }
 }
 
@@ -138,12 +114,8 @@ fn maker_of(rt: HostRuntime, process: &[u8], number: &[u8], file: &File) -> Make
     let mut path = io::buffer();
     match shown_here(rt, file, &mut path) {
         Ok(n) => compared(rt, process, number, &path[..n], file),
-        Err(e) => {
-            if is_unreadable(e) {
-                return compared_by_file(rt, process, number, file);
-            }
-            Maker::Unknown
-        }
+        Err(e) if is_unreadable(e) => compared_by_file(rt, process, number, file),
+        Err(_) => Maker::Unknown,
     }
 }
 
@@ -151,17 +123,11 @@ fn maker_of(rt: HostRuntime, process: &[u8], number: &[u8], file: &File) -> Make
 fn maker_after_all(rt: HostRuntime, process: &[u8], number: &[u8], file: &File) -> Maker
     requires { Short process.now number.now }
 {
-    let mut turns = TURNS;
-    while 0 < turns {
-        let found = maker_of(rt, process, number, file);
-        match found {
-            Maker::Runs => {
-                yield_now();
-            }
-            Maker::Gone => return Maker::Gone,
-            Maker::Unknown => return Maker::Unknown,
+    for _ in 0..TURNS {
+        match maker_of(rt, process, number, file) {
+            Maker::Runs => yield_now(),
+            other => return other,
         }
-        turns -= 1;
     }
     Maker::Runs
 }
@@ -170,35 +136,31 @@ fn maker_after_all(rt: HostRuntime, process: &[u8], number: &[u8], file: &File) 
 fn read_lock(file: &File, out: &mut [u8]) -> usize
     ensures { IsPrefixLen result out.new }
 {
-    let mut turns = TURNS;
-    while 0 < turns {
-        if let Ok(n) = file.read_at(out, 0) {
-            if 0 < n {
-                return n;
-            }
+    for _ in 0..TURNS {
+        match file.read_at(out, 0) {
+            Ok(n) if 0 < n => return n,
+            _ => yield_now(),
         }
-        yield_now();
-        turns -= 1;
     }
     0
 }
 
-// Whether the lock that is open here was left behind, by its mark, whose numbers end at these places; else a complaint is made.
-fn marked_left(rt: HostRuntime, path: &[u8], mark: &[u8], a: usize, b: usize, file: &File) -> bool
-    requires { Marked mark.now (Mark.Ends a b) }
+// The lock that is open here was left behind, by its mark, whose numbers end at these places; else a complaint is made.
+fn marked_left(
+    rt: HostRuntime,
+    path: &[u8],
+    mark: &[u8],
+    ends: (usize, usize),
+    file: &File,
+) -> Result<(), Complained>
+    requires { Marked mark.now ends }
 {
-    let from = a + 1;
-    let found = maker_after_all(rt, &mark[..a], &mark[from..b], file);
-    match found {
-        Maker::Runs => {
-            complain_taken(rt, path, &mark[..a]);
-            false
-        }
-        Maker::Gone => true,
-        Maker::Unknown => {
-            complain_unknown(rt, path);
-            false
-        }
+    let (a, b) = ends;
+    let process = &mark[..a];
+    match maker_after_all(rt, process, &mark[a + 1..b], file) {
+        Maker::Runs => Err(complain_taken(rt, path, process)),
+        Maker::Gone => Ok(()),
+        Maker::Unknown => Err(complain_unknown(rt, path)),
     }
 }
 
@@ -223,153 +185,115 @@ fn own_mark(rt: HostRuntime, file: &File, out: &mut [u8; ROOM]) -> usize
 fn names_this(rt: HostRuntime, mark: &[u8], file: &File) -> bool {
     let mut text = [0u8; ROOM];
     let n = own_mark(rt, file, &mut text);
-    same_bytes(mark, &text[..n])
+    mark == &text[..n]
 }
 
 // The same for any lock. One without a mark is of a maker that was killed before it could write it.
-fn left_behind(rt: HostRuntime, path: &[u8], file: &File) -> bool {
+fn left_behind(rt: HostRuntime, path: &[u8], file: &File) -> Result<(), Complained> {
     let mut text = [0u8; ROOM];
     let n = read_lock(file, &mut text);
-    if names_this(rt, &text[..n], file) {
-        return true;
+    let mark = &text[..n];
+    if names_this(rt, mark, file) {
+        return Ok(());
     }
-    let mark = read_mark(&text[..n]);
-    match mark {
-        Mark::Ends(a, b) => marked_left(rt, path, &text[..n], a, b, file),
-        Mark::Other => true,
+    match read_mark(mark) {
+        Some(ends) => marked_left(rt, path, mark, ends, file),
+        None => Ok(()),
     }
 }
 
 // A pipe in the place of a lock would keep whoever opens it waiting.
 fn may_open(rt: HostRuntime, lock: &[u8]) -> bool {
-    let mode = mode_of(rt, lock);
-    if mode == 0 {
-        return true;
-    }
-    mode & S_IFMT == S_IFREG
+    found(rt, lock).is_none_or(|file| file.is_file())
 }
 
 // A lock that was left behind loses its name, unless another program has just taken it away and put its own there.
-fn remove(rt: HostRuntime, path: &[u8], lock: &[u8], file: &File) -> bool {
+fn remove(rt: HostRuntime, path: &[u8], lock: &[u8], file: &File) -> Result<(), Complained> {
     if nameless(rt, file) {
-        return true;
+        return Ok(());
     }
     match unlink(rt, lock) {
-        Ok(()) => true,
-        Err(e) => {
-            if e.kind() == ErrorKind::NotFound {
-                return true;
-            }
-            complain_why(
-                rt,
-                path,
-                b"its .lock file was left behind, and cannot be removed",
-                e,
-            );
-            false
-        }
+        Err(e) if e.kind() != ErrorKind::NotFound => Err(complain_why(
+            rt,
+            path,
+            b"its .lock file was left behind, and cannot be removed",
+            e,
+        )),
+        _ => Ok(()),
     }
 }
 
-// The lock that is open here is removed where it was left behind; else a complaint is made.
-fn judge(rt: HostRuntime, path: &[u8], lock: &[u8], file: &File) -> bool {
-    if left_behind(rt, path, file) {
-        return remove(rt, path, lock, file);
-    }
-    false
-}
-
-// The same for the lock that is there.
-fn put_aside(rt: HostRuntime, path: &[u8], lock: &[u8]) -> bool {
+// The lock that is there is removed where it was left behind; else a complaint is made.
+fn put_aside(rt: HostRuntime, path: &[u8], lock: &[u8]) -> Result<(), Complained> {
     if !may_open(rt, lock) {
-        complain_unknown(rt, path);
-        return false;
+        return Err(complain_unknown(rt, path));
     }
     match open_read(rt, lock) {
-        Ok(file) => judge(rt, path, lock, &file),
-        Err(e) => {
-            if e.kind() == ErrorKind::NotFound {
-                return true;
-            }
-            complain_unknown(rt, path);
-            false
+        Ok(file) => {
+            left_behind(rt, path, &file)?;
+            remove(rt, path, lock, &file)
         }
+        Err(e) if e.kind() == ErrorKind::NotFound => Ok(()),
+        Err(_) => Err(complain_unknown(rt, path)),
     }
 }
 
 // The mark goes into a new lock.
-fn sign(rt: HostRuntime, file: &File) -> bool {
+fn sign(rt: HostRuntime, file: &File) -> std::io::Result<()> {
     let mut text = [0u8; ROOM];
     let n = own_mark(rt, file, &mut text);
     let mut to = file;
-    to.write_all(&text[..n]).is_ok()
+    to.write_all(&text[..n])
 }
 
 // A new lock stays open. On a full disk it is none; and another program that took the last one for left behind may have removed this one instead.
-fn keep(rt: HostRuntime, lock: &[u8], file: File) -> Lock {
-    if !sign(rt, &file) {
+fn keep(rt: HostRuntime, lock: &[u8], file: File) -> Result<Option<File>, Taken> {
+    if sign(rt, &file).is_err() {
         let _ = unlink(rt, lock);
-        return Lock::Without;
+        return Ok(None);
     }
     if nameless(rt, &file) {
-        return Lock::Taken;
+        return Err(Taken);
     }
-    Lock::Held(file)
+    Ok(Some(file))
 }
 
-// A new lock, if there is none.
-fn lock_new(rt: HostRuntime, lock: &[u8]) -> Lock {
+// A new lock, if there is none and one can be made.
+fn lock_new(rt: HostRuntime, lock: &[u8]) -> Result<Option<File>, Taken> {
     match create(rt, lock) {
         Ok(file) => keep(rt, lock, file),
-        Err(e) => {
-            if e.kind() == ErrorKind::AlreadyExists {
-                return Lock::Taken;
-            }
-            Lock::Without
-        }
+        Err(e) if e.kind() == ErrorKind::AlreadyExists => Err(Taken),
+        Err(_) => Ok(None),
     }
 }
 
-// The second time: whoever made the lock that is there now was quicker.
-fn lock_again(rt: HostRuntime, path: &[u8], lock: &[u8]) -> Lock {
-    let hold = lock_new(rt, lock);
-    match hold {
-        Lock::Held(file) => Lock::Held(file),
-        Lock::Taken => {
-            complain(
-                rt,
-                path,
-                b"its .lock file cannot be made: another ksbench has just taken it, or a link stands in its place",
-            );
-            Lock::Taken
-        }
-        Lock::Without => Lock::Without,
-    }
-}
-
-// The lock of the file of this path, path + `.lock`.
-pub fn hold(rt: HostRuntime, path: &[u8]) -> Lock {
+// The lock of the file of this path, path + `.lock`: it is held as long as this file is open. It is none where none can be made here now, as on a full disk; and
+// where another program has it, a complaint is made. A lock that was left behind is put aside once: whoever made the one that is there then was quicker.
+pub fn hold(rt: HostRuntime, path: &[u8]) -> Result<Option<File>, Complained> {
     let mut room = io::buffer();
-    let n = beside(path, b".lock", &mut room);
-    let first = lock_new(rt, &room[..n]);
-    match first {
-        Lock::Held(file) => Lock::Held(file),
-        Lock::Taken => {
-            if put_aside(rt, path, &room[..n]) {
-                lock_again(rt, path, &room[..n])
-            } else {
-                Lock::Taken
-            }
-        }
-        Lock::Without => Lock::Without,
+    let Some(n) = beside(path, b".lock", &mut room) else {
+        return Ok(None);
+    };
+    let lock = &room[..n];
+    if let Ok(first) = lock_new(rt, lock) {
+        return Ok(first);
     }
+    put_aside(rt, path, lock)?;
+    lock_new(rt, lock).map_err(|_| {
+        complain(
+            rt,
+            path,
+            b"its .lock file cannot be made: another ksbench has just taken it, or a link stands in its place",
+        )
+    })
 }
 
 // The lock is given back, if it is still there. Its name goes first: the other way round, another program could put its own lock there in between, and lose it.
 pub fn release(rt: HostRuntime, path: &[u8], lock: File) {
     let mut room = io::buffer();
-    let n = beside(path, b".lock", &mut room);
-    if !nameless(rt, &lock) {
-        let _ = unlink(rt, &room[..n]);
+    if let Some(n) = beside(path, b".lock", &mut room) {
+        if !nameless(rt, &lock) {
+            let _ = unlink(rt, &room[..n]);
+        }
     }
 }

@@ -4,51 +4,36 @@ ghost use Rattle.std.specs.Io.{ReadsAtMost};
 ghost use Rattle.io.specs.Counts.{IsPrefixLen};
 
 use std::fs;
-use std::fs::{File, OpenOptions};
+use std::fs::{File, Metadata, OpenOptions};
 use std::io::{Error, ErrorKind};
 use std::os::unix::fs::MetadataExt;
 
 // The room for a path, with C's 0 behind it.
 pub(crate) const PATH_MAX: usize = 4096;
 
-// The bits of a mode that tell the kind of a file, and two of the kinds.
-pub(crate) const S_IFMT: u32 = 0o170000;
-
-pub(crate) const S_IFDIR: u32 = 0o040000;
-
-pub(crate) const S_IFREG: u32 = 0o100000;
-
-// C's number for bytes that are no text, EILSEQ.
+// C's number for bytes that are no text, EILSEQ: a complaint has the system's words for it, which no ErrorKind of std has.
 const NO_TEXT: i32 = 84;
 
 fn text_of(path: &[u8]) -> std::io::Result<&str> {
-    match str::from_utf8(path) {
-        Ok(text) => Ok(text),
-        Err(_) => Err(Error::from_raw_os_error(NO_TEXT)),
-    }
+    str::from_utf8(path).map_err(|_| Error::from_raw_os_error(NO_TEXT))
 }
 
-// The kind and mode of the file, links followed, or 0 where they cannot be told.
-pub(crate) fn mode_of(rt: HostRuntime, path: &[u8]) -> u32 {
-    status::mode_at(rt, path)
-}
-
-// Asks for the file and opens nothing: an error, which says why, where it is not there.
-pub(crate) fn seen(rt: HostRuntime, path: &[u8]) -> std::io::Result<()> {
+// What the system says of the file, links followed; nothing is opened. An error says why it says nothing.
+pub(crate) fn seen(rt: HostRuntime, path: &[u8]) -> std::io::Result<Metadata> {
     let text = text_of(path)?;
-    fs::metadata(&rt, text)?;
-    Ok(())
+    fs::metadata(&rt, text)
+}
+
+// The same, where it tells the file's kind: a mode of 0 does not.
+pub(crate) fn found(rt: HostRuntime, path: &[u8]) -> Option<Metadata> {
+    seen(rt, path).ok().filter(|file| file.mode() != 0)
 }
 
 // Whether the name is that of a symbolic link.
 pub(crate) fn is_symlink(rt: HostRuntime, path: &[u8]) -> bool {
-    let Ok(text) = text_of(path) else {
-        return false;
-    };
-    match fs::symlink_metadata(&rt, text) {
-        Ok(found) => found.is_symlink(),
-        Err(_) => false,
-    }
+    text_of(path)
+        .and_then(|text| fs::symlink_metadata(&rt, text))
+        .is_ok_and(|found| found.is_symlink())
 }
 
 // Whether the file that the name leads to is the one that is open here.
@@ -61,10 +46,7 @@ pub(crate) fn is_same_file(rt: HostRuntime, path: &[u8], file: &File) -> std::io
 
 // Whether the open file has lost its last name.
 pub(crate) fn is_unlinked(file: &File) -> bool {
-    match file.metadata() {
-        Ok(found) => found.nlink() == 0,
-        Err(_) => false,
-    }
+    file.metadata().is_ok_and(|found| found.nlink() == 0)
 }
 
 // Whether a link is there, and its text cannot be had: it is no UTF-8, or there is no memory for it.

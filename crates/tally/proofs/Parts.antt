@@ -47,14 +47,14 @@ module _ (n count : ℕ) where
   unfolding refused_line
   line_there e = rw (ne_eqb count 0 e) refl
 
--- ---- the lines that are left from a number on
+-- ---- of counts of the numbers from 1 on, the lines that are left from a place on
 
 abbrev pub lines_from : List ℕ → ℕ → List ℕ
-lines_from counts n = refused_lines n (drop n counts)
+lines_from counts n = refused_lines (n + 1) (drop n counts)
 
-pub lines_turn : (counts : List ℕ) (n : ℕ) → n < length counts → lines_from counts n ≡ refused_line n (get_or counts n 0) ++ lines_from counts (n + 1)
+pub lines_turn : (counts : List ℕ) (n : ℕ) → n < length counts → lines_from counts n ≡ refused_line (n + 1) (get_or counts n 0) ++ lines_from counts (n + 1)
 unfolding refused_lines
-lines_turn counts n h = rw (drop-cons counts n 0 h, add-one) refl
+lines_turn counts n h = rw (drop-cons counts n 0 h, add-one, add-one) refl
 
 pub lines_end : (counts : List ℕ) (n : ℕ) → length counts ≤ n → lines_from counts n ≡ []
 unfolding refused_lines
@@ -87,14 +87,14 @@ module _ (t : StoredTally) where
   abbrev first_line : List ℕ
   first_line = tally_line (ascii "T ") (get_or t.counts 0 0) t.total
 
-  pub text_parts : tally_text (tally_of t) ≡ first_line ++ lines_from t.counts 1
+  pub text_parts : tally_text (tally_of t) ≡ first_line ++ refused_lines 1 (drop 1 t.counts)
   unfolding tally_text
   text_parts =
       λ i. tally_line (ascii "T ") (trimmed_get t.counts 0 i) t.total
       ++ (ap (refused_lines 1) (trimmed_rest t.counts) ∙ trimmed_lines (drop 1 t.counts) 1) i
 
-  pub length_text : length (tally_text (tally_of t)) ≡ length first_line + length (lines_from t.counts 1)
-  length_text = ap length text_parts ∙ length-append first_line (lines_from t.counts 1)
+  pub length_text : length (tally_text (tally_of t)) ≡ length first_line + length (refused_lines 1 (drop 1 t.counts))
+  length_text = ap length text_parts ∙ length-append first_line (refused_lines 1 (drop 1 t.counts))
 
   -- twenty digits for a count and three for a number
   pub text_short : Sums (tally_of t) → t.total < 2 ^ 64 → length t.counts ≡ numbers → length (tally_text (tally_of t)) ≤ longest_tally

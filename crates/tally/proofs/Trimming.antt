@@ -14,7 +14,7 @@ use Rattle.model.specs.Limits.{most_counted}
 use Rattle.model.specs.Tally.{one_more, counted, refused_line, refused_lines, sum, Sums}
 use Rattle.model.proofs.Basics.{either, true_false, and_split, and_false}
 use Rattle.model.proofs.Histories.Tally.{counts_one, counts_none}
-use Rattle.tally.specs.Counts.{before, trimmed, tally_with}
+use Rattle.tally.specs.Trimmed.{before, trimmed, tally_with}
 
 -- ---- a count before others
 

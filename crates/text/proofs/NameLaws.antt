@@ -9,15 +9,19 @@ use native.Mathlib.Numerals.{add-one}
 use borrow.Author.Tests.{le-leb, lt-leb}
 use lib.ListN.{length, take, drop, get_or, set, replicate}
 use lib.Seq.{take-suc, take_at, set_at, length-take-le, append_snoc}
+use Rattle.std.specs.Prelude.{Ok, Err}
+use Rattle.model.specs.declared.Name.{Name}
 use Rattle.model.specs.Limits.{name_limit}
 use Rattle.model.specs.Lists.{all}
 use Rattle.model.specs.Stored.{bytes_of}
 use Rattle.model.specs.Told.{Told, tells, refuses, or_number}
 use Rattle.model.specs.Words.{legal_name, capital, name_byte}
-use Rattle.model.proofs.Basics.{and_false, and_true}
+use Rattle.model.proofs.Basics.{and_false, and_true, none_some}
 use Rattle.model.proofs.Words.{legal_name_short}
-use Rattle.text.specs.declared.names.NameRead.{NameRead}
-use Rattle.text.specs.Names.{no_name, stored, Reads}
+use Rattle.facts.specs.declared.refusals.Refusal.{Refusal}
+use Rattle.facts.specs.declared.refusals.Refusal.TheVariants.{Malformed}
+use Rattle.facts.specs.Refusals.{number_of}
+use Rattle.text.specs.Names.{stored, Reads}
 use Rattle.text.proofs.Lists.{all_next}
 
 -- ---- the word that a loop reads
@@ -61,34 +65,40 @@ module _ (w : List ℕ) (i : ℕ) where
 pub stored_bytes : (w : List ℕ) → bytes_of (stored w) ≡ w
 stored_bytes w = take_at w (replicate (name_limit - length w) 0) (length w) refl
 
-pub reads_none : (w : List ℕ) {r : NameRead} → legal_name w ≡ false → r ≡ no_name → Reads w r
+-- the answer has a name exactly where the word is one; and where it has none its number is 5
+told_some : (w : List ℕ) (t : Bool) {a : List ℕ} → tells a ≡ or_number 5 (cond t (some w) none) → t ≡ true
 unfolding or_number
-reads_none w f e = rw e (record { told = rw f; name = rw f })
+told_some w true e = refl
+told_some w false e = let z : ◌≡◌ {A = ℕ} 0 5 = ap (λ (x : Told (List ℕ)). x.number) e in absurd (omega arith)
 
-pub reads_some : (w : List ℕ) {r : NameRead} → legal_name w ≡ true → r ≡ record { ok = true; name = stored w } → Reads w r
+told_none : (w : List ℕ) (t : Bool) {n : ℕ} → refuses n ≡ or_number 5 (cond t (some w) none) → (t ≡ false) × (n ≡ 5)
 unfolding or_number
-reads_some w t e = rw e (record { told = rw (t, stored_bytes w); name = rw t })
+told_none w true e = none_some (ap (λ (x : Told (List ℕ)). x.value) e)
+told_none w false e = (refl, ap (λ (x : Told (List ℕ)). x.number) e)
 
--- the answer has a name exactly where the word is one
-told_alike : (s t : Bool) (a w : List ℕ) → ◌≡◌ {A = Told (List ℕ)} (cond s (tells a) (refuses 5)) (or_number 5 (cond t (some w) none)) → s ≡ t
+pub reads_none : (w : List ℕ) → legal_name w ≡ false → Reads w (Err Malformed)
 unfolding or_number
-told_alike true true a w e = refl
-told_alike true false a w e = let z : ◌≡◌ {A = ℕ} 0 5 = ap (λ (x : Told (List ℕ)). x.number) e in absurd (omega arith)
-told_alike false true a w e = let z : ◌≡◌ {A = ℕ} 5 0 = ap (λ (x : Told (List ℕ)). x.number) e in absurd (omega arith)
-told_alike false false a w e = refl
+reads_none w f = record { told = rw f; name = tt }
 
--- for a caller of `read_name`
-module _ (w : List ℕ) (r : NameRead) (e : Reads w r) where
-  pub name_ok : r.ok ≡ legal_name w
-  name_ok = told_alike r.ok (legal_name w) (bytes_of r.name) w e.told
+pub reads_some : (w : List ℕ) {n : Name} → legal_name w ≡ true → n ≡ stored w → Reads w (Ok n)
+unfolding or_number
+reads_some w t e = rw e (record { told = rw (t, stored_bytes w); name = refl })
 
-  -- a name that is read gives the word's bytes, and has room for them
-  module _ (t : legal_name w ≡ true) where
-    pub name_is : r.name ≡ stored w
-    name_is = rw t at e.name
+-- for a caller of `read_name`: a name that is read gives the word's bytes, and has room for them
+module _ (w : List ℕ) {n : Name} (e : Reads w (Ok n)) where
+  pub name_legal : legal_name w ≡ true
+  name_legal = told_some w (legal_name w) e.told
 
-    pub name_bytes : bytes_of r.name ≡ w
-    name_bytes = rw name_is (stored_bytes w)
+  pub name_bytes : bytes_of n ≡ w
+  name_bytes = rw e.name (stored_bytes w)
 
-    pub name_short : r.name.len ≤ name_limit
-    name_short = rw name_is (legal_name_short w t)
+  pub name_short : n.len ≤ name_limit
+  name_short = rw e.name (legal_name_short w name_legal)
+
+-- and none is read of a word that is none, which is refused with 5
+module _ (w : List ℕ) {why : Refusal} (e : Reads w (Err why)) where
+  pub name_illegal : legal_name w ≡ false
+  name_illegal = (told_none w (legal_name w) e.told).0
+
+  pub name_refused : number_of why ≡ 5
+  name_refused = (told_none w (legal_name w) e.told).1

@@ -1,54 +1,67 @@
 -- Axis pairs: the place of an axis word, and the values while they are read.
-use Prim.Native.Nat.{ℕ, zero, suc, ◌+◌, ◌<◌}
+use Prim.Native.Nat.{ℕ, zero, suc, ◌<◌, ◌≤◌}
 use mathlib.Core.Path.{◌≡◌, refl, sym, ap, ◌∙◌}
 use mathlib.Core.List.{List, [], ◌∷◌, map}
 use mathlib.Core.Bool.{Bool, true, false, cond, not, ◌&&◌}
-use mathlib.Core.Logic.{⊎_elim}
 use mathlib.Core.Option.{Option, none, some}
 use native.Mathlib.Decide.{ℕ_discrete}
 use native.Mathlib.Omega.{arith}
 use lib.IntN.{ℤ, pos}
-use lib.ListN.{length, get_or, set, replicate}
+use lib.ListN.{length, length-map, get_or, set, replicate}
 use lib.Seq.{get_or-set_same, get_or-set_other}
-use borrow.Author.Tests.{leb-true}
-use lib.Dec.{leb}
+use borrow.Author.Tests.{leb-true, ne_eqb}
+use lib.Dec.{leb, eqb, eqb→eq}
 use Rattle.model.specs.Lists.{same, least, there?, between}
 use Rattle.model.specs.declared.Kind.{Kind}
 use Rattle.model.specs.declared.Turns.{Turns}
 use Rattle.model.specs.declared.Vec3.{Vec3}
 use Rattle.model.specs.Request.{Reading, malformed, beyond, define, asks_change, definition, Values, no_values, axis, axis_words, first_axis, may_come, pairs, given, in_range, offsets_of, turns_of}
 use Rattle.model.specs.Told.{tells, refuses}
-use Rattle.model.specs.Words.{legal_name, number, offset?, angle?}
-use Rattle.model.proofs.Basics.{true_false, and_split, either, least_now, least_later}
-use Rattle.text.specs.Pairs.{six, ranged, answered, pairs_read, values_of}
+use Rattle.model.specs.Words.{legal_name, number, offset?, angle?, upper}
+use Rattle.model.proofs.Upto.{at}
+use Rattle.model.proofs.Basics.{true_false, and_split, least_later}
+use Rattle.text.specs.Pairs.{ranged, answered, pairs_read, values_of}
 use Rattle.text.specs.Readings.{reading_told}
-use Rattle.text.proofs.Choice.{chosen}
+use Rattle.text.proofs.Lists.{same_length}
 
 -- ---- the place of an axis word
 
--- each text with its place, from a place on
-abbrev pub Placed : Type 0
-Placed = List ℕ × ℕ
+-- a word of one letter is that letter in capitals
+letter_is : (l : List ℕ) (u : ℕ) → 1 ≤ length l → length l < 2 → u ≡ upper (get_or l 0 0) → map upper l ≡ u ∷ []
+letter_is [] u a b e = absurd (omega arith)
+letter_is (x ∷ []) u a b e = ap (λ (v : ℕ). v ∷ []) (sym e)
+letter_is (x ∷ y ∷ l) u a b e = absurd (omega arith)
 
-unfoldable pub placed : ℕ → List (List ℕ) → List Placed
-placed k [] = []
-placed k (t ∷ ts) = (t, k) ∷ placed (suc k) ts
+pub axis_letter : (l : List ℕ) (u : ℕ) → 1 ≤ length l → length l < 2 → u ≡ upper (get_or l 0 0) → (t : ℕ) → u ≡ t → axis (t ∷ []) ≡ axis (map upper l)
+axis_letter l u a b e t p = ap axis (sym (letter_is l u a b e ∙ ap (λ (v : ℕ). v ∷ []) p))
 
--- the place behind them for any other word
-abbrev pub place_of : ℕ → List Placed → List ℕ → ℕ
-place_of n = chosen (λ p. p.0) (λ p. p.1) n
+-- any other letter is no axis, and neither is a word of another length
+least_none : (n : ℕ) (p : ℕ → Bool) → ((i : ℕ) → i < n → p i ≡ false) → n ≡ least n p
+unfolding least
+least_none zero p f = refl
+least_none (suc n) p f = ap suc (least_none n (λ i. p (suc i)) (λ i h. f (suc i) (omega arith))) ∙ sym (least_later n p (f 0 (omega arith)))
 
-least_place : (k n : ℕ) (ts : List (List ℕ)) (w : List ℕ) → n ≡ k + length ts → k + least (length ts) (λ i. same w (get_or ts i [])) ≡ place_of n (placed k ts) w
-unfolding chosen placed least
-least_place k n [] w e = omega arith
-least_place k n (t ∷ ts) w e =
-    ⊎_elim (λ h. rw (least_now (length ts) (λ i. same w (get_or (t ∷ ts) i [])) h, h) (omega arith))
-    (λ h. rw (least_later (length ts) (λ i. same w (get_or (t ∷ ts) i [])) h, h) (omega (arith, least_place (suc k) n ts w (omega arith))))
-    (either (same w t))
+pub axis_other : (u : ℕ) → (u ≡ 88 → ⊥) → (u ≡ 89 → ⊥) → (u ≡ 90 → ⊥) → (u ≡ 85 → ⊥) → (u ≡ 86 → ⊥) → (u ≡ 87 → ⊥) → 6 ≡ axis (u ∷ [])
+unfolding axis same
+axis_other u a b c d e f = least_none 6 (λ i. same (u ∷ []) (get_or axis_words i [])) missed
+  where
+    missed : (i : ℕ) → i < 6 → same (u ∷ []) (get_or axis_words i []) ≡ false
+    missed zero h = rw (ne_eqb u 88 a)
+    missed (suc zero) h = rw (ne_eqb u 89 b)
+    missed (suc (suc zero)) h = rw (ne_eqb u 90 c)
+    missed (suc (suc (suc zero))) h = rw (ne_eqb u 85 d)
+    missed (suc (suc (suc (suc zero)))) h = rw (ne_eqb u 86 e)
+    missed (suc (suc (suc (suc (suc zero))))) h = rw (ne_eqb u 87 f)
+    missed (suc (suc (suc (suc (suc (suc i)))))) h = absurd (omega arith)
 
-pub axis_place : (w : List ℕ) → axis w ≡ place_of 6 (placed 0 axis_words) w
+one_long : (i : ℕ) → i < 6 → length (get_or axis_words i []) ≡ 1
+one_long i h = eqb→eq _ 1 (at 6 (λ k. eqb (length (get_or axis_words k [])) 1) tt i h)
+
+pub axis_none : (l : List ℕ) → (length l ≡ 1 → ⊥) → 6 ≡ axis (map upper l)
 unfolding axis
-axis_place w = omega (arith, least_place 0 6 axis_words w refl)
+axis_none l h =
+    least_none 6 (λ i. same (map upper l) (get_or axis_words i []))
+    (λ i k. same_length (map upper l) (get_or axis_words i []) (λ e. h (omega (arith, length-map l upper, one_long i k))))
 
 -- ---- values
 
@@ -64,19 +77,14 @@ unfolding ranged in_range
 ranged_same vs ws f = rw (f 0, f 1, f 2, f 3, f 4, f 5)
 
 -- values in their ranges have listed angles
-pub angles_listed : (x y z u v w : ℤ) → in_range (six x y z u v w) ≡ true → (angle? u ≡ true) × (angle? v ≡ true) × (angle? w ≡ true)
-unfolding in_range given
-angles_listed x y z u v w e =
-    let a = and_split (offset? x && offset? y && offset? z && angle? u && angle? v) (angle? w) e in
-    let b = and_split (offset? x && offset? y && offset? z && angle? u) (angle? v) a.0 in
-    let c = and_split (offset? x && offset? y && offset? z) (angle? u) b.0 in
-    (c.1, b.1, a.1)
-
--- the values of a list, one by one
-pub ranged_six : (l : List ℤ) →
-    ranged (six (get_or l 0 (pos 0)) (get_or l 1 (pos 0)) (get_or l 2 (pos 0)) (get_or l 3 (pos 0)) (get_or l 4 (pos 0)) (get_or l 5 (pos 0))) ≡ ranged (map some l)
-unfolding ranged in_range given
-ranged_six l = rw (given_map l 0, given_map l 1, given_map l 2, given_map l 3, given_map l 4, given_map l 5)
+pub angles_listed : (l : List ℤ) → in_range (map some l) ≡ true → (angle? (get_or l 3 (pos 0)) ≡ true) × (angle? (get_or l 4 (pos 0)) ≡ true) × (angle? (get_or l 5 (pos 0)) ≡ true)
+unfolding in_range
+angles_listed l e =
+    let at = given (map some l) in
+    let a = and_split (offset? (at 0) && offset? (at 1) && offset? (at 2) && angle? (at 3) && angle? (at 4)) (angle? (at 5)) e in
+    let b = and_split (offset? (at 0) && offset? (at 1) && offset? (at 2) && angle? (at 3)) (angle? (at 4)) a.0 in
+    let c = and_split (offset? (at 0) && offset? (at 1) && offset? (at 2)) (angle? (at 3)) b.0 in
+    (rw (given_map l 3) at c.1, rw (given_map l 4) at b.1, rw (given_map l 5) at a.1)
 
 -- ---- the values while they are read
 

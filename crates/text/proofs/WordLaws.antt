@@ -6,8 +6,8 @@ use mathlib.Core.Bool.{Bool, true, false, cond, not, beq}
 use native.Mathlib.Omega.{arith}
 use native.Mathlib.Numerals.{add-one}
 use lib.Dec.{eqb, leb}
-use lib.ListN.{length, take, drop, get_or, length-take, length-drop, length-map, drop_of_length-le, get_or-map}
-use lib.Seq.{drop-cons, drop-drop, get_or-take, get_or-drop}
+use lib.ListN.{length, take, drop, get_or, length-take, length-drop, length-map, drop_of_length-le}
+use lib.Seq.{drop-cons, drop-drop}
 use borrow.Author.Tests.{eq-eqb, ne_eqb, leb-true}
 use Rattle.model.specs.Lists.{kept, none?, between, pieces, ahead}
 use Rattle.model.specs.Words.{words, upper}
@@ -47,6 +47,19 @@ module _ (spaces : Bool) where
   unfolding lead
   lead_le [] = omega arith
   lead_le (b ∷ bs) = pick_le (beq (eqb b 32) spaces) (suc (lead spaces bs)) 0 (suc (length bs)) (omega (arith, lead_le bs)) (omega arith)
+
+  -- as a search for the first other byte counts
+  pub lead_none : lead spaces [] ≡ 0
+  unfolding lead
+  lead_none = refl
+
+  pub lead_hit : (b : ℕ) (bs : List ℕ) → beq (eqb b 32) spaces ≡ false → lead spaces (b ∷ bs) ≡ 0
+  unfolding lead
+  lead_hit b bs e = rw e
+
+  pub lead_miss : (b : ℕ) (bs : List ℕ) → beq (eqb b 32) spaces ≡ true → lead spaces (b ∷ bs) ≡ lead spaces bs + 1
+  unfolding lead
+  lead_miss b bs e = rw e (omega arith)
 
   -- a loop over the line: one byte on, another byte, and the end
   module _ (l : List ℕ) (i : ℕ) where
@@ -152,9 +165,6 @@ words_end (b ∷ bs) h = pick (eqb b 32) refl (words_end bs) h
 module _ (line : List ℕ) (start n : ℕ) (h : start + n ≤ length line) where
   pub length_word : length (word_at line start n) ≡ n
   length_word = simp (length-map, length-take, length-drop) (omega arith)
-
-  pub word_at_lem : (i : ℕ) → i < n → get_or (word_at line start n) i 0 ≡ upper (get_or line (start + i) 0)
-  word_at_lem i l = get_or-map upper (take n (drop start line)) i 0 ∙ rw (get_or-take n (drop start line) i 0, get_or-drop start line i 0)
 
 -- ---- the cursor
 

@@ -2,12 +2,10 @@
 use Rattle.std.specs.Prelude.{ℕ, ◌+◌, ◌*◌, ◌-◌, ◌/◌, ◌^◌, ◌≤◌, ◌<◌, List, [], ◌∷◌, Bool, true, false, cond, ◌&&◌, eqb, ltb, ℤ}
 use Rattle.std.proofs.Math.Option.{Option, none, some}
 use Rattle.model.specs.Limits.{whole_digits, decimals, million}
-use Rattle.model.specs.Told.{Told, tells, refuses, or_number}
+use Rattle.model.specs.Told.{Told, or_number}
 use Rattle.model.specs.Words.{digit}
 use Rattle.text.specs.declared.numbers.Num.{Num}
 use Rattle.text.specs.declared.numbers.Num.TheVariants.{Start, Minus, Whole, Point, Part, Wrong}
-use Rattle.text.specs.declared.numbers.Value.{Value}
-use Rattle.text.specs.declared.numbers.Value.TheVariants.{Millionths, Malformed}
 use Rattle.text.specs.Values.{with_sign}
 
 -- ---- one byte
@@ -55,11 +53,6 @@ valued Wrong = none
 -- what is told of the bytes so far, if they are the whole word: the number read, or 5
 abbrev pub num_told : Num → Told ℤ
 num_told n = or_number 5 (valued n)
-
--- and by an answer
-abbrev pub value_told : Value → Told ℤ
-value_told (Millionths z) = tells z
-value_told Malformed = refuses 5
 
 -- ---- the ranges of what was read so far
 

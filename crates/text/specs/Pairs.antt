@@ -6,16 +6,8 @@ use Rattle.model.specs.declared.Turns.{Turns}
 use Rattle.model.specs.declared.Vec3.{Vec3}
 use Rattle.model.specs.Request.{Values, no_values, pairs, in_range, offsets_of, turns_of}
 use Rattle.model.specs.Told.{Told, tells, refuses}
-use Rattle.text.specs.declared.pairs.Pairs.{Pairs}
-use Rattle.text.specs.declared.pairs.Pairs.TheVariants.{Malformed, Beyond, Kept}
 
--- ---- the answer
-
--- [A line; Errors 5, 6] the number of each case, and the offsets and turns that are kept
-abbrev pub pairs_told : Pairs → Told (Vec3 × Turns)
-pairs_told Malformed = refuses 5
-pairs_told Beyond = refuses 6
-pairs_told (Kept t u) = tells (t, u)
+-- ---- the answer: the number, or the offsets and turns that are kept
 
 -- [Error 6] well-formed pairs
 unfoldable pub ranged : Values → Told (Vec3 × Turns)
@@ -31,10 +23,6 @@ abbrev pub pairs_read : Kind → List (List ℕ) → Told (Vec3 × Turns)
 pairs_read k ws = answered (pairs k ws no_values)
 
 -- ---- the values while they are read
-
--- a value for each axis
-abbrev pub six : ℤ → ℤ → ℤ → ℤ → ℤ → ℤ → Values
-six x y z u v w = some x ∷ some y ∷ some z ∷ some u ∷ some v ∷ some w ∷ []
 
 -- axes that have come, and their values
 unfoldable pub values_of : List Bool → List ℤ → Values

@@ -1,11 +1,10 @@
 // A number, byte by byte: an optional minus, digits, and perhaps a point and decimals, into whole millionths.
 ghost use Rattle.std.specs.Prelude.{◌≡◌};
-ghost use Rattle.text.specs.Numbers.{part, first, stepped, Good, wrong, num_told, value_told};
+ghost use Rattle.facts.specs.Refusals.{told_or};
+ghost use Rattle.text.specs.Numbers.{part, first, stepped, Good, wrong, num_told};
 
 use super::values::signed;
-use super::words::between;
 use facts::limits::{MILLION, WHOLE_DIGITS};
-use signed::wide;
 
 // The first decimal of one, in millionths.
 const FIRST_DECIMAL: u64 = MILLION / 10;
@@ -24,18 +23,11 @@ pub enum Num {
     Wrong,
 }
 
-// What a whole word says: a number, in millionths, or 5.
-#[derive(Clone, Copy)]
-pub enum Value {
-    Millionths(i64),
-    Malformed,
-}
-
 fn first_digit(minus: bool, b: u8) -> Num
     ensures { result ≡ first minus b }
 {
-    if between(b'0', b'9', b) {
-        return Num::Whole(minus, 1, wide(b - b'0'));
+    if b.is_ascii_digit() {
+        return Num::Whole(minus, 1, u64::from(b - b'0'));
     }
     Num::Wrong
 }
@@ -47,10 +39,8 @@ fn whole_digit(minus: bool, k: u8, v: u64, b: u8) -> Num
     if b == b'.' {
         return Num::Point(minus, v * MILLION);
     }
-    if between(b'0', b'9', b) {
-        if k < WHOLE_DIGITS {
-            return Num::Whole(minus, k + 1, 10 * v + wide(b - b'0'));
-        }
+    if b.is_ascii_digit() && k < WHOLE_DIGITS {
+        return Num::Whole(minus, k + 1, 10 * v + u64::from(b - b'0'));
     }
     Num::Wrong
 }
@@ -59,8 +49,8 @@ fn part_digit(minus: bool, v: u64, w: u64, b: u8) -> Num
     requires { Good (Num.Part minus v w) }
     ensures { result ≡ part minus v w b }
 {
-    if between(b'0', b'9', b) {
-        return Num::Part(minus, v + wide(b - b'0') * w, w / 10);
+    if b.is_ascii_digit() {
+        return Num::Part(minus, v + u64::from(b - b'0') * w, w / 10);
     }
     Num::Wrong
 }
@@ -96,26 +86,18 @@ pub(crate) fn step(n: Num, b: u8) -> Num
 pub(crate) fn is_wrong(n: Num) -> bool
     ensures { result ≡ wrong n }
 {
-    match n {
-        Num::Start => false,
-        Num::Minus => false,
-        Num::Whole(_, _, _) => false,
-        Num::Point(_, _) => false,
-        Num::Part(_, _, _) => false,
-        Num::Wrong => true,
-    }
+    matches!(n, Num::Wrong)
 }
 
-pub(crate) fn value_of(n: Num) -> Value
+// The number that the bytes are, in millionths, if they are one.
+#[tactic(auto, unfolding(model::specs::Told::or_number))]
+pub(crate) fn value_of(n: Num) -> Option<i64>
     requires { Good n }
-    ensures { value_told result ≡ num_told n }
+    ensures { told_or 5 (λ z. z) result ≡ num_told n }
 {
     match n {
-        Num::Start => Value::Malformed,
-        Num::Minus => Value::Malformed,
-        Num::Whole(g, _, v) => Value::Millionths(signed(g, v * MILLION)),
-        Num::Point(_, _) => Value::Malformed,
-        Num::Part(g, v, _) => Value::Millionths(signed(g, v)),
-        Num::Wrong => Value::Malformed,
+        Num::Whole(g, _, v) => Some(signed(g, v * MILLION)),
+        Num::Part(g, v, _) => Some(signed(g, v)),
+        Num::Start | Num::Minus | Num::Point(_, _) | Num::Wrong => None,
     }
 }

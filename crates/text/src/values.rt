@@ -35,7 +35,7 @@ pub fn angle_fine(z: i64) -> bool
     ensures { result ≡ angle? z }
 {
     let m = magnitude(z);
-    m % QUARTER_TURN == 0 && m / QUARTER_TURN <= MOST_TURNS as u64
+    m % QUARTER_TURN == 0 && m / QUARTER_TURN <= u64::from(MOST_TURNS)
 }
 
 // The quarter turns that a listed angle is kept as.

@@ -1,5 +1,5 @@
 // Words of a line by a cursor: where the next one starts and ends. Nothing is copied.
-ghost use Rattle.std.specs.Prelude.{◌≡◌, ◌+◌, ◌≤◌, length, drop};
+ghost use Rattle.std.specs.Prelude.{◌≡◌, ◌+◌, ◌≤◌, eqb, length, drop};
 ghost use Rattle.model.specs.Lists as lists;
 ghost use Rattle.model.specs.Lists.{same};
 ghost use Rattle.model.specs.Words as model;
@@ -12,6 +12,14 @@ pub struct Word {
     pub end: usize,
 }
 
+impl Word {
+    pub fn is_empty(self) -> bool
+        ensures { result ≡ eqb self.start self.end }
+    {
+        self.start == self.end
+    }
+}
+
 pub fn between(low: u8, high: u8, b: u8) -> bool
     ensures { result ≡ lists.between low high b }
 {
@@ -22,25 +30,19 @@ pub fn between(low: u8, high: u8, b: u8) -> bool
 pub fn upper(b: u8) -> u8
     ensures { result ≡ model.upper b }
 {
-    if between(b'a', b'z', b) {
-        return b - 32;
-    }
-    b
+    b.to_ascii_uppercase()
 }
 
-// Past the spaces at a place, or past the other bytes.
+// Past the spaces at a place, or past the other bytes. (The flag switches no step: it is what each byte's test must answer.)
 pub(crate) fn past(line: &[u8], at: usize, spaces: bool) -> usize
     requires { at ≤ length line.now }
     ensures { result ≡ at + lead spaces (drop at line.now) }
 {
-    let mut i = at;
-    while i < line.len() {
-        if (line[i] == b' ') != spaces {
-            return i;
-        }
-        i += 1;
-    }
-    i
+    let rest = &line[at..];
+    at + rest
+        .iter()
+        .position(|&b| (b == b' ') != spaces)
+        .unwrap_or(rest.len())
 }
 
 pub fn next_word(line: &[u8], at: usize) -> Word
@@ -57,18 +59,6 @@ pub fn is_word(line: &[u8], w: Word, text: &[u8]) -> bool
     requires { Within line.now w }
     ensures { result ≡ same (word_of line.now w) text.now }
 {
-    let start = w.start;
-    let n = w.end - start;
-    if n != text.len() {
-        return false;
-    }
-    let mut i = 0;
-    while i < n {
-        let at = start + i;
-        if upper(line[at]) != text[i] {
-            return false;
-        }
-        i += 1;
-    }
-    true
+    let word = &line[w.start..w.end];
+    word.len() == text.len() && word.iter().zip(text).all(|(&a, &b)| upper(a) == b)
 }

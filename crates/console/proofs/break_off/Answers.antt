@@ -7,25 +7,19 @@ use lib.Seq.{length-take-le}
 use Rattle.model.specs.Tally.{tally_text}
 use Rattle.print.proofs.Laws.{wrote_first}
 use Rattle.tally.specs.Counts.{tally_of}
-use Rattle.console.proofs.break_off.Goals.{After-put_tally-m}
+use Rattle.console.proofs.break_off.Goals.{After-put_tally-size}
 use Rattle.console.proofs.break_off.Goals as goal
 
-pub put_tally-m-requires : goal.put_tally-m-requires
-put_tally-m-requires c = record {
-  sums = c.requires.between.sums;
-  longest_tally_in_bounds = c.requires.longest_tally_in_bounds;
-}
-
 -- what the first bytes of the buffer are
-first : (c : After-put_tally-m) → let w = c.put_tally-m in
+first : (c : After-put_tally-size) → let w = c.put_tally-size in
     (w.result ≤ length w.new.out) × (take w.result w.new.out ≡ tally_text (tally_of c.args.s.tally))
-first c = let w = c.put_tally-m.ensures in wrote_first (omega (arith, w.wrote.place, w.upper_bound, c.requires.longest_tally_in_bounds)) w.wrote
+first c = let w = c.put_tally-size.ensures in wrote_first (omega (arith, w.wrote.place, w.upper_bound, c.requires)) w.wrote
 
 pub slice_bounds-write_tally_until_now-end : goal.slice_bounds-write_tally_until_now-end
-slice_bounds-write_tally_until_now-end c = (first (goal.at.slice_bounds-write_tally_until_now-end c).After-put_tally-m).0
+slice_bounds-write_tally_until_now-end c = (first (goal.at.slice_bounds-write_tally_until_now-end c).After-put_tally-size).0
 
 pub slice_bounds-write_tally_until_now-end-2 : goal.slice_bounds-write_tally_until_now-end-2
-slice_bounds-write_tally_until_now-end-2 c = sym (length-take-le _ _ (first (goal.at.slice_bounds-write_tally_until_now-end-2 c).After-put_tally-m).0)
+slice_bounds-write_tally_until_now-end-2 c = sym (length-take-le _ _ (first (goal.at.slice_bounds-write_tally_until_now-end-2 c).After-put_tally-size).0)
 
 pub write_tally_until_now-requires : goal.write_tally_until_now-requires
-write_tally_until_now-requires c = (first (goal.at.write_tally_until_now-requires c).After-put_tally-m).1
+write_tally_until_now-requires c = (first (goal.at.write_tally_until_now-requires c).After-put_tally-size).1

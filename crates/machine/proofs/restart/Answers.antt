@@ -12,4 +12,4 @@ returns-then-not-state_fine c =
 pub returns : goal.returns
 returns c =
     let s = c.args.s in
-    rw c.started-state.ensures (restart_taken s (fine_of s (sym c.state_fine.ensures ∙ c.if-not-state_fine.false)))
+    rw c.started.ensures (restart_taken s (fine_of s (sym c.state_fine.ensures ∙ c.if-not-state_fine.false)))

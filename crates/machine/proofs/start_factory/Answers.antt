@@ -8,4 +8,4 @@ use Rattle.machine.proofs.start_factory.Goals as goal
 pub returns : goal.returns
 returns c =
     let made = c.factory_memory in
-    rw c.started.ensures (start_holds made.result made.ensures.result_value_2 ∙ ap (λ (n : Memory). holds (started n)) made.ensures.result_value)
+    rw c.started.ensures (start_holds made.result made.ensures.shaped ∙ ap (λ (n : Memory). holds (started n)) made.ensures.stands_for)

@@ -2,12 +2,8 @@
 use Rattle.machine.proofs.Calls.{start_taken, start_refused}
 use Rattle.machine.proofs.start_image.Goals as goal
 
-pub returns-then-found : goal.returns-then-found
-returns-then-found c =
-    let found = c.read-found in
-    rw c.started-state.ensures (start_taken _ found.result found.ensures c.if-found.true)
+pub returns-in-Ok : goal.returns-in-Ok
+returns-in-Ok c = rw c.started.ensures (start_taken _ c.in-Ok.m c.in-Ok.ensures)
 
-pub returns : goal.returns
-returns c =
-    let found = c.read-found in
-    rw c.started-state.ensures (start_refused _ found.result found.ensures c.if-found.false)
+pub returns-in-Err : goal.returns-in-Err
+returns-in-Err c = start_refused _ c.in-Err.why c.in-Err.ensures c.start_factory.result c.start_factory.ensures

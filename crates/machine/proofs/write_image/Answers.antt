@@ -23,13 +23,13 @@ unfolding short
 returns-then-out-lt-BUFFER_LIMIT c =
     rw c.refusing-then-out-lt-BUFFER_LIMIT.ensures (image_refused c.args.s (fine (goal.at.returns-then-out-lt-BUFFER_LIMIT c).Else-not-state_fine) c.args.out.now (lt-ltb _ _ c.if-out-lt-BUFFER_LIMIT.true))
 
-pub write-length-requires : goal.write-length-requires
-write-length-requires c =
-    let f = fine (goal.at.write-length-requires c).Else-not-state_fine in
+pub write-requires : goal.write-requires
+write-requires c =
+    let f = fine (goal.at.write-requires c).Else-not-state_fine in
     ((shape_parts _ f.shape).1, (state_of_lem _ f.formed).permanent, c.if-out-lt-BUFFER_LIMIT.false)
 
 pub returns : goal.returns
 unfolding short
 returns c =
-    let w = c.write-length.ensures in
+    let w = c.write.ensures in
     image_taken c.args.s (fine (goal.at.returns c).Else-not-state_fine) c.args.out.now _ _ (le-ltb _ _ c.if-out-lt-BUFFER_LIMIT.false) w.0 w.1

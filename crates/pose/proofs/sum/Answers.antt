@@ -23,7 +23,7 @@ returns c =
     let q = c.args.q in
     λ i.
     record {
-      x = is p.x q.x c.requires.within.x_within c.requires.within_2.x_within i;
-      y = is p.y q.y c.requires.within.y_within c.requires.within_2.y_within i;
-      z = is p.z q.z c.requires.within.z_within c.requires.within_2.z_within i;
+      x = is p.x q.x c.requires.p_near.x_within c.requires.q_near.x_within i;
+      y = is p.y q.y c.requires.p_near.y_within c.requires.q_near.y_within i;
+      z = is p.z q.z c.requires.p_near.z_within c.requires.q_near.z_within i;
     }

@@ -1,85 +1,84 @@
 use Prim.Native.Nat.{suc, ◌-◌, ◌<◌}
-use mathlib.Core.Path.{◌≡◌}
-use mathlib.Core.List.{[]}
+use mathlib.Core.Path.{◌≡◌, ap}
 use native.Mathlib.Omega.{arith}
-use lib.ListN.{length, take, drop}
+use lib.ListN.{length, take, drop, length-take}
 use borrow.Author.Rules.{rules}
-use Rattle.model.specs.Memory.{fixed_ref}
 use Rattle.model.specs.Reply.{link_line}
+use Rattle.model.proofs.Shape.{shaped_count}
 use Rattle.chains.proofs.Copies.{length_mapped}
 use Rattle.print.specs.Over.{Wrote}
-use Rattle.model.proofs.Shape.{shaped_count}
-use Rattle.reply.specs.Types.{Operating}
+use Rattle.print.proofs.Laws.{wrote_then}
 use Rattle.reply.specs.Lines.{further}
-use Rattle.reply.proofs.ListLaws.{plan_room, plan_start, plan_end, going_on, going_room, going_within, going_turn}
+use Rattle.reply.proofs.FixedLaws.{fixed_links}
+use Rattle.reply.proofs.ListLaws.{plan_start, plan_end, going_on, going_room, going_within, going_turn}
 use Rattle.reply.proofs.PlanLaws.{line_at, links_plan}
-use Rattle.reply.proofs.StoredLaws.{name_fits, pred_fits}
+use Rattle.reply.proofs.StoredLaws.{lent_count, lent_at, name_fits, pred_fits}
 use Rattle.reply.proofs.TurnLaws.{link_turn}
-use Rattle.reply.proofs.links.Goals.{Start}
-use Rattle.reply.proofs.links.Goals.{In-loop-i}
-use Rattle.reply.proofs.links.Goals.{After-slot-j}
-use Rattle.reply.proofs.links.Goals.{After-put_further_link-n}
+use Rattle.reply.proofs.links.Goals.{Start, In-loop-s, After-slot, After-put_link-at}
 use Rattle.reply.proofs.links.Goals as goal
 
 long : (c : Start) → length c.args.m.systems ≡ 16
 long c = search (length_mapped, rules)
 
--- an index below the count is one of the array
-within : (c : In-loop-i) → c.loop-i.i < 16
-within c = omega (arith, shaped_count c.args.m c.requires.fine_memory.shape, c.loop-i-test.true)
+-- a system that is lent is one of those that count
+below : (c : In-loop-s) → c.loop-s.s-index < c.args.m.count
+below c = omega (arith, length-take c.args.m.count c.args.m.systems, c.loop-s-test.true)
 
-pub put_fixed_links-at-requires : goal.put_fixed_links-at-requires
-put_fixed_links-at-requires c = omega (arith, plan_room (links_plan c.args.m c.requires.fine_memory c.args.reply.now c.requires.buffer_limit_in_bounds (long (goal.at.put_fixed_links-at-requires c).Start)))
+pub shared_ref_as_front-s-items : goal.shared_ref_as_front-s-items
+shared_ref_as_front-s-items c = shaped_count c.args.m c.requires.fine_memory.shape
 
-pub loop-i-init : goal.loop-i-init
-loop-i-init c =
-    plan_start (links_plan c.args.m c.requires.fine_memory c.args.reply.now c.requires.buffer_limit_in_bounds (long (goal.at.loop-i-init c).Start)) c.put_fixed_links-at.ensures
+pub loop-s-init : goal.loop-s-init
+loop-s-init c =
+    plan_start (links_plan c.args.m c.requires.fine_memory c.args.reply.now c.requires.room (long (goal.at.loop-s-init c).Start)) (rw fixed_links c.put_fixed-at.ensures)
 
-pub bounds-m-i : goal.bounds-m-i
-bounds-m-i c = omega (arith, within (goal.at.bounds-m-i c).In-loop-i)
-
--- and so is the predecessor's
-slot_within : (c : After-slot-j) → (c.slot-j.result < c.args.m.count) × (c.slot-j.result < 16)
-slot_within c =
-    let i = c.loop-i.i in
-    let h = c.loop-i-test.true in
-    let p = pred_fits c.args.m c.requires.fine_memory.shape ((search (length_mapped, rules))) c.requires.fine_memory.formed i h in
-    (omega (arith, p, h, c.slot-j.ensures), omega (arith, p, c.slot-j.ensures, shaped_count c.args.m c.requires.fine_memory.shape))
-
-pub offset_bounds-m-j : goal.offset_bounds-m-j
-offset_bounds-m-j c = record { fits = omega (arith, (slot_within (goal.at.offset_bounds-m-j c).After-slot-j).1) }
-
-pub bounds-m-j : goal.bounds-m-j
-bounds-m-j c = omega (arith, (slot_within (goal.at.bounds-m-j c).After-slot-j).1)
-
-pub slice_bounds-put_further_link-start : goal.slice_bounds-put_further_link-start
-slice_bounds-put_further_link-start c = omega (arith, going_within c.loop-i.invariant)
-
-pub put_further_link-n-requires : goal.put_further_link-n-requires
-put_further_link-n-requires c =
+-- and so is the predecessor
+slot_below : (c : After-slot) → c.slot.result < c.args.m.count
+slot_below c =
     let m = c.args.m in
-    let h = c.loop-i-test.true in (
-      λ o. (name_fits m c.requires.fine_memory.shape (long (goal.at.put_further_link-n-requires c).Start) c.loop-i.i h, name_fits m c.requires.fine_memory.shape (long (goal.at.put_further_link-n-requires c).Start) c.slot-j.result (slot_within (goal.at.put_further_link-n-requires c).After-slot-j).0),
-      rw c.slot-j.ensures (rw (link_turn m c.requires.fine_memory.shape (long (goal.at.put_further_link-n-requires c).Start) c.requires.fine_memory.formed (link_line [] (fixed_ref Operating)) c.loop-i.i h) at (going_room c.loop-i.invariant h)),
+    let fine = c.requires.fine_memory in
+    let i = c.loop-s.s-index in
+    let h : i < m.count = omega (arith, length-take m.count m.systems, c.loop-s-test.true) in
+    let p = pred_fits m fine.shape (search (length_mapped, rules)) fine.formed i h in
+    omega (arith, h, p, rw (lent_at m fine.shape (search (length_mapped, rules)) i h) at c.slot.ensures)
+
+pub bounds-m-slot : goal.bounds-m-slot
+bounds-m-slot c = omega (arith, slot_below (goal.at.bounds-m-slot c).After-slot, shaped_count c.args.m c.requires.fine_memory.shape)
+
+pub put_text-a-requires : goal.put_text-a-requires
+put_text-a-requires c = omega (arith, going_room c.loop-s.invariant (below (goal.at.put_text-a-requires c).In-loop-s))
+
+pub put_link-at-requires : goal.put_link-at-requires
+put_link-at-requires c =
+    let m = c.args.m in
+    let fine = c.requires.fine_memory in
+    let full = long (goal.at.put_link-at-requires c).Start in
+    let i = c.loop-s.s-index in
+    let h = below (goal.at.put_link-at-requires c).In-loop-s in (
+      rw (lent_at m fine.shape full i h) (name_fits m fine.shape full i h),
+      name_fits m fine.shape full c.slot.result (slot_below (goal.at.put_link-at-requires c).After-slot),
+      rw c.slot.ensures (omega (arith, going_room c.loop-s.invariant h, ap length (link_turn m fine.shape full fine.formed i h), c.put_text-a.ensures.place, c.put_text-a.auto.out)),
     )
 
 -- what is written is the line of the next place
-wrote : (c : After-put_further_link-n) → let l = c.loop-i in
-    Wrote (further (line_at link_line c.args.m (suc l.i))) (take (length l.reply - l.at) (drop l.at l.reply)) 0 c.put_further_link-n.new.part c.put_further_link-n.result
+wrote : (c : After-put_link-at) → let l = c.loop-s in
+    Wrote (further (line_at link_line c.args.m (suc l.s-index))) (take (length l.reply - l.at) (drop l.at l.reply)) 0 c.put_link-at.new.out c.put_link-at.result
 wrote c =
-    let h = c.loop-i-test.true in
-    rw (link_turn c.args.m c.requires.fine_memory.shape ((search (length_mapped, rules))) c.requires.fine_memory.formed (link_line [] (fixed_ref Operating)) c.loop-i.i h) (rw c.slot-j.ensures at c.put_further_link-n.ensures)
+    let fine = c.requires.fine_memory in
+    rw (link_turn c.args.m fine.shape (search (length_mapped, rules)) fine.formed c.loop-s.s-index (omega (arith, length-take c.args.m.count c.args.m.systems, c.loop-s-test.true)))
+    (wrote_then c.put_text-a.ensures (rw c.slot.ensures at c.put_link-at.ensures))
 
 pub overflow_add-at : goal.overflow_add-at
 overflow_add-at c =
-    let n = going_on c.loop-i.invariant c.loop-i-test.true (wrote (goal.at.overflow_add-at c).After-put_further_link-n).place in record { fits = grind (arith, n) }
+    let n = going_on c.loop-s.invariant (below (goal.at.overflow_add-at c).In-loop-s) (wrote (goal.at.overflow_add-at c).After-put_link-at).place in record { fits = grind (arith, n) }
 
-pub loop-i-preserved : goal.loop-i-preserved
-loop-i-preserved c = going_turn c.loop-i.invariant c.loop-i-test.true (wrote (goal.at.loop-i-preserved c).After-put_further_link-n)
+pub loop-s-preserved : goal.loop-s-preserved
+loop-s-preserved c = going_turn c.loop-s.invariant (below (goal.at.loop-s-preserved c).In-loop-s) (wrote (goal.at.loop-s-preserved c).After-put_link-at)
 
 pub put_byte-requires : goal.put_byte-requires
-put_byte-requires c = going_within c.loop-i.invariant
+put_byte-requires c = going_within c.loop-s.invariant
 
 pub returns : goal.returns
 returns c =
-    plan_end (links_plan c.args.m c.requires.fine_memory c.args.reply.now c.requires.buffer_limit_in_bounds (long (goal.at.returns c).Start)) c.put_fixed_links-at.ensures c.loop-i.invariant c.loop-i-test.false c.put_byte.ensures
+    let full = long (goal.at.returns c).Start in
+    plan_end (links_plan c.args.m c.requires.fine_memory c.args.reply.now c.requires.room full) (rw fixed_links c.put_fixed-at.ensures) c.loop-s.invariant
+    (omega (arith, lent_count c.args.m c.requires.fine_memory.shape full, c.loop-s-test.false)) c.put_byte.ensures

@@ -1,69 +1,69 @@
 use Prim.Native.Nat.{suc, ◌-◌, ◌<◌}
-use mathlib.Core.Path.{◌≡◌}
-use mathlib.Core.List.{[]}
+use mathlib.Core.Path.{◌≡◌, ap}
 use native.Mathlib.Omega.{arith}
-use lib.ListN.{length, take, drop}
+use lib.ListN.{length, take, drop, length-take}
 use borrow.Author.Rules.{rules}
-use Rattle.model.specs.Memory.{fixed_ref}
 use Rattle.model.specs.Reply.{system_line}
+use Rattle.model.proofs.Shape.{shaped_count}
 use Rattle.chains.proofs.Copies.{length_mapped}
 use Rattle.print.specs.Over.{Wrote}
-use Rattle.model.proofs.Shape.{shaped_count}
-use Rattle.reply.specs.Types.{Operating}
+use Rattle.print.proofs.Laws.{wrote_then}
 use Rattle.reply.specs.Lines.{further}
-use Rattle.reply.proofs.ListLaws.{plan_room, plan_start, plan_end, going_on, going_room, going_within, going_turn}
+use Rattle.reply.proofs.FixedLaws.{fixed_systems}
+use Rattle.reply.proofs.ListLaws.{plan_start, plan_end, going_on, going_room, going_within, going_turn}
 use Rattle.reply.proofs.PlanLaws.{line_at, systems_plan}
-use Rattle.reply.proofs.StoredLaws.{writable}
+use Rattle.reply.proofs.StoredLaws.{lent_count, lent_at, writable}
 use Rattle.reply.proofs.TurnLaws.{system_turn}
-use Rattle.reply.proofs.systems.Goals.{Start}
-use Rattle.reply.proofs.systems.Goals.{In-loop-i}
-use Rattle.reply.proofs.systems.Goals.{After-put_further_system-n}
+use Rattle.reply.proofs.systems.Goals.{Start, In-loop-s, After-put_system-at}
 use Rattle.reply.proofs.systems.Goals as goal
 
 long : (c : Start) → length c.args.m.systems ≡ 16
 long c = search (length_mapped, rules)
 
--- an index below the count is one of the array
-within : (c : In-loop-i) → c.loop-i.i < 16
-within c = omega (arith, shaped_count c.args.m c.requires.fine_memory.shape, c.loop-i-test.true)
+-- a system that is lent is one of those that count
+below : (c : In-loop-s) → c.loop-s.s-index < c.args.m.count
+below c = omega (arith, length-take c.args.m.count c.args.m.systems, c.loop-s-test.true)
 
-pub put_fixed_systems-at-requires : goal.put_fixed_systems-at-requires
-put_fixed_systems-at-requires c = omega (arith, plan_room (systems_plan c.args.m c.requires.fine_memory c.args.reply.now c.requires.buffer_limit_in_bounds (long (goal.at.put_fixed_systems-at-requires c).Start)))
+pub shared_ref_as_front-s-items : goal.shared_ref_as_front-s-items
+shared_ref_as_front-s-items c = shaped_count c.args.m c.requires.fine_memory.shape
 
-pub loop-i-init : goal.loop-i-init
-loop-i-init c =
-    plan_start (systems_plan c.args.m c.requires.fine_memory c.args.reply.now c.requires.buffer_limit_in_bounds (long (goal.at.loop-i-init c).Start)) c.put_fixed_systems-at.ensures
+pub loop-s-init : goal.loop-s-init
+loop-s-init c =
+    plan_start (systems_plan c.args.m c.requires.fine_memory c.args.reply.now c.requires.room (long (goal.at.loop-s-init c).Start)) (rw fixed_systems c.put_fixed-at.ensures)
 
-pub bounds-m-i : goal.bounds-m-i
-bounds-m-i c = omega (arith, within (goal.at.bounds-m-i c).In-loop-i)
+pub put_text-a-requires : goal.put_text-a-requires
+put_text-a-requires c = omega (arith, going_room c.loop-s.invariant (below (goal.at.put_text-a-requires c).In-loop-s))
 
-pub slice_bounds-put_further_system-start : goal.slice_bounds-put_further_system-start
-slice_bounds-put_further_system-start c = omega (arith, going_within c.loop-i.invariant)
-
-pub put_further_system-n-requires : goal.put_further_system-n-requires
-put_further_system-n-requires c =
+pub put_system-at-requires : goal.put_system-at-requires
+put_system-at-requires c =
     let m = c.args.m in
-    let h = c.loop-i-test.true in (
-      λ o. writable m c.requires.fine_memory.shape (long (goal.at.put_further_system-n-requires c).Start) c.requires.fine_memory.formed c.loop-i.i h,
-      rw (system_turn m c.requires.fine_memory.shape (long (goal.at.put_further_system-n-requires c).Start) (system_line [] (fixed_ref Operating)) c.loop-i.i h) at (going_room c.loop-i.invariant h),
+    let fine = c.requires.fine_memory in
+    let full = long (goal.at.put_system-at-requires c).Start in
+    let i = c.loop-s.s-index in
+    let h = below (goal.at.put_system-at-requires c).In-loop-s in (
+      rw (lent_at m fine.shape full i h) (writable m fine.shape full fine.formed i h),
+      omega (arith, going_room c.loop-s.invariant h, ap length (system_turn m fine.shape full i h), c.put_text-a.ensures.place, c.put_text-a.auto.out),
     )
 
 -- what is written is the line of the next place
-wrote : (c : After-put_further_system-n) → let l = c.loop-i in
-    Wrote (further (line_at system_line c.args.m (suc l.i))) (take (length l.reply - l.at) (drop l.at l.reply)) 0 c.put_further_system-n.new.part c.put_further_system-n.result
+wrote : (c : After-put_system-at) → let l = c.loop-s in
+    Wrote (further (line_at system_line c.args.m (suc l.s-index))) (take (length l.reply - l.at) (drop l.at l.reply)) 0 c.put_system-at.new.out c.put_system-at.result
 wrote c =
-    rw (system_turn c.args.m c.requires.fine_memory.shape ((search (length_mapped, rules))) (system_line [] (fixed_ref Operating)) c.loop-i.i c.loop-i-test.true) c.put_further_system-n.ensures
+    rw (system_turn c.args.m c.requires.fine_memory.shape (search (length_mapped, rules)) c.loop-s.s-index (omega (arith, length-take c.args.m.count c.args.m.systems, c.loop-s-test.true)))
+    (wrote_then c.put_text-a.ensures c.put_system-at.ensures)
 
 pub overflow_add-at : goal.overflow_add-at
 overflow_add-at c =
-    let n = going_on c.loop-i.invariant c.loop-i-test.true (wrote (goal.at.overflow_add-at c).After-put_further_system-n).place in record { fits = grind (arith, n) }
+    let n = going_on c.loop-s.invariant (below (goal.at.overflow_add-at c).In-loop-s) (wrote (goal.at.overflow_add-at c).After-put_system-at).place in record { fits = grind (arith, n) }
 
-pub loop-i-preserved : goal.loop-i-preserved
-loop-i-preserved c = going_turn c.loop-i.invariant c.loop-i-test.true (wrote (goal.at.loop-i-preserved c).After-put_further_system-n)
+pub loop-s-preserved : goal.loop-s-preserved
+loop-s-preserved c = going_turn c.loop-s.invariant (below (goal.at.loop-s-preserved c).In-loop-s) (wrote (goal.at.loop-s-preserved c).After-put_system-at)
 
 pub put_byte-requires : goal.put_byte-requires
-put_byte-requires c = going_within c.loop-i.invariant
+put_byte-requires c = going_within c.loop-s.invariant
 
 pub returns : goal.returns
 returns c =
-    plan_end (systems_plan c.args.m c.requires.fine_memory c.args.reply.now c.requires.buffer_limit_in_bounds (long (goal.at.returns c).Start)) c.put_fixed_systems-at.ensures c.loop-i.invariant c.loop-i-test.false c.put_byte.ensures
+    let full = long (goal.at.returns c).Start in
+    plan_end (systems_plan c.args.m c.requires.fine_memory c.args.reply.now c.requires.room full) (rw fixed_systems c.put_fixed-at.ensures) c.loop-s.invariant
+    (omega (arith, lent_count c.args.m c.requires.fine_memory.shape full, c.loop-s-test.false)) c.put_byte.ensures

@@ -1,11 +1,7 @@
-use Prim.Native.Nat.{◌-◌}
 use Rattle.model.specs.Reply.{system_line}
 use Rattle.reply.proofs.ListLaws.{Going}
 use Rattle.reply.proofs.PlanLaws.{line_at}
 use Rattle.reply.proofs.systems.Given as goal
 
-abbrev pub invariant-loop-i : goal.invariant-loop-i
-invariant-loop-i l = Going (line_at system_line l.m) l.count l.initial.reply l.initial.at l.reply l.at l.i
-
-abbrev pub decreases-loop-i : goal.decreases-loop-i
-decreases-loop-i l = l.count - l.i
+abbrev pub invariant-loop-s : goal.invariant-loop-s
+invariant-loop-s l = Going (line_at system_line l.fn.m) l.fn.m.count l.initial.reply l.initial.at l.reply l.at l.s-index

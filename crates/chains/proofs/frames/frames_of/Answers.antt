@@ -1,42 +1,37 @@
-use Rattle.model.specs.declared.System.{System as StoredSystem}
-use Prim.Native.Nat.{ℕ, ◌<◌}
-use mathlib.Core.Path.{◌≡◌, refl, sym, subst}
-use native.Mathlib.Omega.{arith}
-use borrow.Author.Rules.{rules}
-use lib.IntN.{pos}
+use Rattle.std.proofs.Common.{ℕ, ◌≡◌, ◌<◌, length, get_or, sym, ap, subst, arith, rules, length-take, map}
+use Rattle.std.proofs.Math.ListN.{length-set, get_or-map, length-map}
+use Rattle.std.proofs.Math.IntN.{pos}
 use mir.Syntax.{w64}
 use mir.Val.{to_z, of_z}
-use lib.ListN.{length, get_or, length-set}
+use Rattle.model.specs.declared.System.{System as StoredSystem}
+use Rattle.model.specs.Stored.{system_of}
 use Rattle.chains.proofs.Copies.{length_mapped, three_more, unset}
-use Rattle.model.specs.Stored.{systems_of}
-use Rattle.chains.proofs.Laid.{LaidAs, frames_laid, stored_length, stored_at}
+use Rattle.chains.proofs.Laid.{LaidAs, frames_laid}
 use Rattle.chains.proofs.frames.frames_of.Goals as goal
-
-pub loop-i-init : goal.loop-i-init
-loop-i-init c = (omega arith, refl, refl, λ j h. absurd (omega arith), λ j h. absurd (omega arith))
 
 pub loop-i-preserved : goal.loop-i-preserved
 loop-i-preserved c =
-    let f : ℕ → StoredSystem = λ j. get_or c.args.m.systems j unset in
-    let t = (f c.loop-i.i).offset in
+    let w = c.loop-i in
+    let m = c.args.m in
+    let long : length m.systems ≡ 16 = search (length_mapped, rules) in
+    let few : w.i < 16 = omega (arith, ap length c.held-s-items.ensures, length-take m.count m.systems) in
+    let f : ℕ → StoredSystem = λ j. get_or c.held-s-items.result.now j unset in
+    let t = (f w.i).offset in
     let ex : to_z w64 (of_z w64 t.x) ≡ t.x = search rules in
     let ey : to_z w64 (of_z w64 t.y) ≡ t.y = search rules in
     let ez : to_z w64 (of_z w64 t.z) ≡ t.z = search rules in (
-      omega arith,
-      simp length-set c.loop-i.invariant.1,
-      simp length-set c.loop-i.invariant.2,
-      rw (ex, ey, ez) (three_more (pos 0) (λ j. (f j).offset.x) (λ j. (f j).offset.y) (λ j. (f j).offset.z) c.loop-i.offsets c.loop-i.i (omega arith) c.loop-i.invariant.3),
-      three_more 0 (λ j. (f j).turns.u) (λ j. (f j).turns.v) (λ j. (f j).turns.w) c.loop-i.turns c.loop-i.i (omega arith) c.loop-i.invariant.4,
+      simp length-set w.invariant.0,
+      simp length-set w.invariant.1,
+      rw (ex, ey, ez) (three_more (pos 0) (λ j. (f j).offset.x) (λ j. (f j).offset.y) (λ j. (f j).offset.z) w.offsets w.i (omega arith) w.invariant.2),
+      three_more 0 (λ j. (f j).turns.u) (λ j. (f j).turns.v) (λ j. (f j).turns.w) w.turns w.i (omega arith) w.invariant.3,
     )
 
 pub returns : goal.returns
 returns c =
     let w = c.loop-i in
-    let m = c.args.m in
-    let h : length m.systems ≡ 16 = search (length_mapped, rules) in
-    let n = stored_length m.systems m.count in
-    frames_laid w.offsets w.turns (systems_of m)
+    let xs = c.held-s-items.result.now in
+    rw (← c.held-s-items.ensures) (frames_laid w.offsets w.turns (map system_of xs)
     (λ j b.
-    let k : j < w.i = omega (arith, c.held-count.ensures) in
-    subst (LaidAs w.offsets w.turns j) (sym (stored_at m.systems m.count j (omega arith)))
-    (w.invariant.3 j k, w.invariant.4 j k))
+    let k : j < w.i = omega (arith, length-map xs system_of) in
+    subst (LaidAs w.offsets w.turns j) (sym (get_or-map system_of xs j unset))
+    (w.invariant.2 j k, w.invariant.3 j k)))

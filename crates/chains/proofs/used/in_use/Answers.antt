@@ -8,7 +8,7 @@ use Rattle.chains.proofs.used.in_use.Goals as goal
 pub returns-then-first : goal.returns-then-first
 returns-then-first c =
     let s = c.args in
-    in_operating s.preds.now s.enabled s.sought (search_of c.look_operating-first.result) c.look_operating-first.ensures.result_value c.if-first.true
+    in_operating s.preds.now s.enabled s.sought (search_of c.look_operating-first.result) c.look_operating-first.ensures.search_value c.if-first.true
 
 pub look_along-second-requires : goal.look_along-second-requires
 look_along-second-requires c = (search rules, omega (arith, c.look_operating-first.ensures.looked_bound))
@@ -18,8 +18,8 @@ returns-then-second c =
     let s = c.args in
     let f = c.look_operating-first in
     let g = c.look_along-second in
-    in_orientational s.preds.now s.enabled s.sought (search_of f.result) f.ensures.result_value c.if-first.false
-    (search_of g.result) g.ensures.result_value c.if-second.true
+    in_orientational s.preds.now s.enabled s.sought (search_of f.result) f.ensures.search_value c.if-first.false
+    (search_of g.result) g.ensures.search_value c.if-second.true
 
 pub look_along-requires : goal.look_along-requires
 look_along-requires c = (search rules, omega (arith, c.look_along-second.ensures.looked_bound, c.look_operating-first.ensures.looked_bound))
@@ -29,6 +29,6 @@ returns c =
     let s = c.args in
     let f = c.look_operating-first in
     let g = c.look_along-second in
-    c.look_along.ensures.result_value
-    ∙ in_levelling s.preds.now s.enabled s.sought (search_of f.result) f.ensures.result_value c.if-first.false
-    (search_of g.result) g.ensures.result_value c.if-second.false
+    c.look_along.ensures.search_value
+    ∙ in_levelling s.preds.now s.enabled s.sought (search_of f.result) f.ensures.search_value c.if-first.false
+    (search_of g.result) g.ensures.search_value c.if-second.false

@@ -11,6 +11,6 @@ pub returns : goal.returns
 returns c =
     let s = c.args in
     let found = c.look_down.ensures ∙ ap (λ (places : List ℕ). after s.before (seek (eqb s.k) places)) (down_along s.preds.now s.before s.q) in record {
-      result_value = found;
+      search_value = found;
       looked_bound = omega (arith, ap (λ (r : Search). r.looked) found, few_along s.preds.now s.k s.q);
     }

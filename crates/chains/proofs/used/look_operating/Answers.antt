@@ -11,8 +11,8 @@ pub returns-then-work : goal.returns-then-work
 returns-then-work c =
     let s = c.args in
     let work = c.look_along-work.ensures in record {
-      result_value = rw c.in-Pair.is
-          (ended_there (eqb s.k) _ _ 0 (search_of c.look_along-work.result) work.result_value c.if-work.true ∙ after_none _);
+      search_value = rw c.in-Pair.is
+          (ended_there (eqb s.k) _ _ 0 (search_of c.look_along-work.result) work.search_value c.if-work.true ∙ after_none _);
       looked_bound = omega (arith, work.looked_bound);
     }
 
@@ -22,7 +22,7 @@ look_along-requires-in-Pair c = (search rules, omega (arith, c.look_along-work.e
 pub returns-in-Single : goal.returns-in-Single
 returns-in-Single c =
     let one = c.look_along.ensures in record {
-      result_value = rw c.in-Single.is (one.result_value ∙ after_none _);
+      search_value = rw c.in-Single.is (one.search_value ∙ after_none _);
       looked_bound = omega (arith, one.looked_bound);
     }
 
@@ -31,7 +31,7 @@ returns-else-work c =
     let s = c.args in
     let work = c.look_along-work.ensures in
     let tool = c.look_along-in-Pair.ensures in record {
-      result_value = rw c.in-Pair.is
-          (tool.result_value ∙ goes_on (eqb s.k) _ _ 0 (search_of c.look_along-work.result) work.result_value c.if-work.false ∙ after_none _);
+      search_value = rw c.in-Pair.is
+          (tool.search_value ∙ goes_on (eqb s.k) _ _ 0 (search_of c.look_along-work.result) work.search_value c.if-work.false ∙ after_none _);
       looked_bound = omega (arith, work.looked_bound, tool.looked_bound);
     }

@@ -45,7 +45,7 @@ near c =
 -- the step that is taken from there
 step_near : (c : Start) → Within offset_limit c.args.p.offset
 unfolding position_fine
-step_near c = let p = c.args.p in offsets_in p.offset (and_split (offsets_fine p.offset) (angles_fine p.angles) c.requires.p_value).0
+step_near c = let p = c.args.p in offsets_in p.offset (and_split (offsets_fine p.offset) (angles_fine p.angles) c.requires.p_fine).0
 
 pub turn-step-requires : goal.turn-step-requires
 turn-step-requires c =
@@ -54,8 +54,8 @@ turn-step-requires c =
 pub sum-at-requires : goal.sum-at-requires
 sum-at-requires c =
     let turned = within_turned offset_limit c.walk_from-r.result.rot c.args.p.offset (step_near (goal.at.sum-at-requires c).Start) in record {
-      within = within_more farthest reach _ (omega arith) (near (goal.at.sum-at-requires c).After-walk_from-r).at;
-      within_2 = subst (Within reach) (sym c.turn-step.ensures) (within_more offset_limit reach _ (omega arith) turned);
+      p_near = within_more farthest reach _ (omega arith) (near (goal.at.sum-at-requires c).After-walk_from-r).at;
+      q_near = subst (Within reach) (sym c.turn-step.ensures) (within_more offset_limit reach _ (omega arith) turned);
     }
 
 pub returns : goal.returns

@@ -4,14 +4,16 @@ use Rattle.model.specs.Memory.{ref_or}
 use Rattle.memory.specs.Found.{found_told, found_place}
 use Rattle.commands.proofs.subject.group_found.Goals as goal
 
-pub returns-in-User : goal.returns-in-User
+pub returns-in-Some-User : goal.returns-in-Some-User
 unfolding found_told found_place ref_or
-returns-in-User c = λ l e. rw c.in-User.is (c.group_of.ensures ∙ ap (λ k. (of_kind k).group) (rw c.in-User.is at e))
+returns-in-Some-User c =
+    let user = rw c.in-Some-User.is at c.in-Some-User.field-0-is in
+    λ l e. rw (c.in-Some-User.is, user) (c.group_of.ensures ∙ ap (λ k. (of_kind k).group) (rw (c.in-Some-User.is, user) at e))
 
-pub returns-in-Fixed : goal.returns-in-Fixed
+pub returns-in-Some-Fixed : goal.returns-in-Some-Fixed
 unfolding found_told found_place ref_or
-returns-in-Fixed c = λ l e. rw c.in-Fixed.is
+returns-in-Some-Fixed c = let fixed = rw c.in-Some-Fixed.is at c.in-Some-Fixed.field-0-is in λ l e. rw (c.in-Some-Fixed.is, fixed)
 
-pub returns-in-Absent : goal.returns-in-Absent
+pub returns-in-None : goal.returns-in-None
 unfolding found_told found_place ref_or
-returns-in-Absent c = λ l e. rw c.in-Absent.is
+returns-in-None c = λ l e. rw c.in-None.is

@@ -18,12 +18,12 @@ returns c =
     let m = c.args.m in
     let l = systems_of m in
     let places = c.places_named-places.ensures in
-    let one = c.about-first.ensures (memory_of m) places.stands.place_is (ap (λ (s : System). s.kind) places.stands.system_is) in
+    let one = c.about-first.ensures (memory_of m) places.first_stands.place_is (ap (λ (s : System). s.kind) places.first_stands.system_is) in
     record {
       first = one;
-      second = c.about-second.ensures (memory_of m) places.stands_2.place_is (ap (λ (s : System). s.kind) places.stands_2.system_is);
-      source = places.stands.system_is ∙ ap (system_at l) (places.stands.place_is ∙ sym (place_is (memory_of m) _ _ one));
-      named = places.stands.shaped c.requires;
+      second = c.about-second.ensures (memory_of m) places.second_stands.place_is (ap (λ (s : System). s.kind) places.second_stands.system_is);
+      source = places.first_stands.system_is ∙ ap (system_at l) (places.first_stands.place_is ∙ sym (place_is (memory_of m) _ _ one));
+      named = places.first_stands.shaped c.requires;
       links = places.links_of;
       counted = places.count_value;
       stored = sym (systems_of_count m c.requires (long (goal.at.returns c).Start));

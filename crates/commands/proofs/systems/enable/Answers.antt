@@ -6,26 +6,24 @@ use Rattle.model.specs.Stored.{systems_of, memory_of, state_of}
 use Rattle.memory.specs.Put.{holding}
 use Rattle.model.specs.Checklist.{asks_to_save}
 use Rattle.commands.specs.declared.changed.Deed.TheVariants.{Enable}
-use Rattle.commands.specs.Done.{done, Fits, saving, removing}
+use Rattle.commands.specs.Done.{done, saving, settle, Fits}
 use Rattle.commands.proofs.Asked.{found_is, found_kind}
-use Rattle.commands.proofs.Carried.{decides_refused, decides_accepted}
+use Rattle.commands.proofs.Carried.{decides_handed_on, decides_accepted}
 use Rattle.commands.proofs.systems.enable.Goals as goal
 
-pub returns-then-number-ne-ACCEPTED : goal.returns-then-number-ne-ACCEPTED
-returns-then-number-ne-ACCEPTED c =
-    λ s x y level seen.
-    decides_refused s (enable x) c.judge_enable-number.result (c.judge_enable-number.ensures s.volatile x y seen (state_of s) level) c.refused.result c.if-number-ne-ACCEPTED.true c.refused.ensures
+pub returns-in_err-judge_enable : goal.returns-in_err-judge_enable
+returns-in_err-judge_enable c = λ s x y level seen. decides_handed_on s (enable x) _ c.from_residual.result c.from_residual.ensures.1 (c.in_err-judge_enable.ensures s.volatile x y seen (state_of s) level)
 
 pub returns : goal.returns
-unfolding changed done Fits saving removing asks_to_save
+unfolding changed done saving settle Fits asks_to_save
 returns c =
     let a = c.args in
     λ s x y level seen.
-    let number = c.judge_enable-number.ensures s.volatile x y seen (state_of s) level in
+    let number = c.in_ok-judge_enable.ensures s.volatile x y seen (state_of s) level in
     let l = systems_of s.volatile in
     let kind = found_kind (memory_of s.volatile) x a.k.first seen.first in
     let found = found_is (memory_of s.volatile) x a.k.first seen.first in
     let enabled = c.enabling-after.ensures l kind ∙ (λ i. enabling (sym level i) (holding l (seen.enabled i)) (ref_or (found i))) in
-    decides_accepted s (enable x) c.judge_enable-number.result number c.accepted.result (Enable c.enabling-after.result) c.if-number-ne-ACCEPTED.false c.accepted.ensures
+    decides_accepted s (enable x) (Enable c.enabling-after.result) number refl
     tt
-    (λ i. with_volatile (state_of s) (holding l (enabled i))) refl refl
+    (λ i. with_volatile (state_of s) (holding l (enabled i))) refl

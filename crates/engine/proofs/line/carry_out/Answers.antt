@@ -1,115 +1,89 @@
 -- `carry_out`: each case of the request is the definition's.
-use mathlib.Core.Path.{refl}
 use Rattle.model.specs.Checklist.{asks_to_save}
-use Rattle.engine.proofs.Steps.{obeyed_unknown, obeyed_malformed, obeyed_beyond}
-use Rattle.engine.proofs.Taking.{seen_in, refusal_taken, change_taken}
+use Rattle.engine.proofs.Taking.{seen_in, change_taken}
 use Rattle.engine.proofs.OneLine.{named_within}
 use Rattle.engine.proofs.line.carry_out.Goals as goal
 
 pub look-requires : goal.look-requires
 look-requires c = c.requires.fine_memory.shape
 
-pub define-requires : goal.define-requires
-define-requires c = (c.look.ensures.links.few, c.requires.len_le_name_limit.0)
-
-pub look-requires-in-Locate : goal.look-requires-in-Locate
-look-requires-in-Locate c = c.requires.fine_memory.shape
-
 pub locate-requires : goal.locate-requires
 locate-requires c = record {
   fine_memory = c.requires.fine_memory;
-  p_value = c.requires.p_value;
-  links_of = (c.look-in-Locate.ensures.links, c.requires.len_le_name_limit.0);
+  p_fine = c.requires.p_fine;
+  links_of = c.look-in-Locate.ensures.links;
+  name_len = c.requires.names_fit.0;
 }
 
 pub look-requires-in-Link : goal.look-requires-in-Link
 look-requires-in-Link c = c.requires.fine_memory.shape
 
-pub link-requires : goal.link-requires
-link-requires c = c.look-in-Link.ensures.links.few
-
 pub look-requires-in-Copy : goal.look-requires-in-Copy
 look-requires-in-Copy c = c.requires.fine_memory.shape
-
-pub copy-requires : goal.copy-requires
-copy-requires c = (c.look-in-Copy.ensures.links.few, c.requires.len_le_name_limit.1)
 
 pub look-requires-in-Remove : goal.look-requires-in-Remove
 look-requires-in-Remove c = c.requires.fine_memory.shape
 
-pub remove-requires : goal.remove-requires
-remove-requires c = c.look-in-Remove.ensures.links.few
-
 pub look-requires-in-Enable : goal.look-requires-in-Enable
 look-requires-in-Enable c = c.requires.fine_memory.shape
+
+pub look-requires-in-Locate : goal.look-requires-in-Locate
+look-requires-in-Locate c = c.requires.fine_memory.shape
 
 pub resultant_line-requires : goal.resultant_line-requires
 resultant_line-requires c = record {
   fine_memory = c.requires.fine_memory;
-  buffer_limit_in_bounds = c.requires.buffer_limit_in_bounds;
-  place_le_count = named_within c.args.m _ _ c.subject_of.ensures;
+  room = c.requires.room;
+  there = named_within c.args.m _ _ c.subject_of.ensures;
 }
 
 pub relative_line-requires : goal.relative_line-requires
 relative_line-requires c =
     let seen = c.look-in-ListRelative.ensures in record {
       fine_memory = c.requires.fine_memory;
-      buffer_limit_in_bounds = c.requires.buffer_limit_in_bounds;
-      place_le_count = (named_within c.args.m _ _ seen.first, named_within c.args.m _ _ seen.second);
+      room = c.requires.room;
+      there = (named_within c.args.m _ _ seen.first, named_within c.args.m _ _ seen.second);
     }
-
-pub returns-in-Unknown : goal.returns-in-Unknown
-unfolding asks_to_save
-returns-in-Unknown c s volatile position level error = rw c.in-Unknown.is (refusal_taken s _ _ c.silent.ensures _ _ _ refl _ (obeyed_unknown _ _) c.refused.ensures)
-
-pub returns-in-Malformed : goal.returns-in-Malformed
-unfolding asks_to_save
-returns-in-Malformed c s volatile position level error = rw c.in-Malformed.is (refusal_taken s _ _ c.silent-in-Malformed.ensures _ _ _ refl _ (obeyed_malformed _ _) c.refused-in-Malformed.ensures)
-
-pub returns-in-Beyond : goal.returns-in-Beyond
-unfolding asks_to_save
-returns-in-Beyond c s volatile position level error = rw c.in-Beyond.is (refusal_taken s _ _ c.silent-in-Beyond.ensures _ _ _ refl _ (obeyed_beyond _ _) c.refused-in-Beyond.ensures)
 
 pub returns-in-Define : goal.returns-in-Define
 unfolding asks_to_save
-returns-in-Define c s volatile position level error = rw c.in-Define.is (change_taken s _ _ c.silent-in-Define.ensures _ _ (c.define.ensures s _ level (seen_in volatile c.look.ensures)))
+returns-in-Define c s volatile position level error = rw c.in-Define.is (change_taken _ (c.define.ensures s _ level (seen_in volatile c.look.ensures)) c.silent.ensures)
 
 pub returns-in-Locate : goal.returns-in-Locate
 unfolding asks_to_save
-returns-in-Locate c s volatile position level error =
-    rw c.in-Locate.is (change_taken s _ _ c.silent-in-Locate.ensures _ _ (c.locate.ensures s _ volatile position c.look-in-Locate.ensures))
+returns-in-Locate c s volatile position level error = rw c.in-Locate.is (change_taken _ (c.locate.ensures s _ volatile position c.look-in-Locate.ensures) c.silent-in-Locate.ensures)
 
 pub returns-in-Link : goal.returns-in-Link
 unfolding asks_to_save
-returns-in-Link c s volatile position level error = rw c.in-Link.is (change_taken s _ _ c.silent-in-Link.ensures _ _ (c.link.ensures s _ _ level (seen_in volatile c.look-in-Link.ensures)))
+returns-in-Link c s volatile position level error = rw c.in-Link.is (change_taken _ (c.link.ensures s _ _ level (seen_in volatile c.look-in-Link.ensures)) c.silent-in-Link.ensures)
 
 pub returns-in-Copy : goal.returns-in-Copy
 unfolding asks_to_save
-returns-in-Copy c s volatile position level error = rw c.in-Copy.is (change_taken s _ _ c.silent-in-Copy.ensures _ _ (c.copy.ensures s _ level (seen_in volatile c.look-in-Copy.ensures)))
+returns-in-Copy c s volatile position level error = rw c.in-Copy.is (change_taken _ (c.copy.ensures s _ level (seen_in volatile c.look-in-Copy.ensures)) c.silent-in-Copy.ensures)
 
 pub returns-in-Remove : goal.returns-in-Remove
 unfolding asks_to_save
-returns-in-Remove c s volatile position level error = rw c.in-Remove.is (change_taken s _ _ c.silent-in-Remove.ensures _ _ (c.remove.ensures s _ _ level (seen_in volatile c.look-in-Remove.ensures)))
+returns-in-Remove c s volatile position level error = rw c.in-Remove.is (change_taken _ (c.remove.ensures s _ _ level (seen_in volatile c.look-in-Remove.ensures)) c.silent-in-Remove.ensures)
 
 pub returns-in-Enable : goal.returns-in-Enable
 unfolding asks_to_save
-returns-in-Enable c s volatile position level error = rw c.in-Enable.is (change_taken s _ _ c.silent-in-Enable.ensures _ _ (c.enable.ensures s _ _ level (seen_in volatile c.look-in-Enable.ensures)))
+returns-in-Enable c s volatile position level error = rw c.in-Enable.is (change_taken _ (c.enable.ensures s _ _ level (seen_in volatile c.look-in-Enable.ensures)) c.silent-in-Enable.ensures)
 
 pub returns-in-SetLevel : goal.returns-in-SetLevel
 unfolding asks_to_save
-returns-in-SetLevel c s volatile position level error = rw c.in-SetLevel.is (change_taken s _ _ c.silent-in-SetLevel.ensures _ _ (c.set_level.ensures s))
+returns-in-SetLevel c s volatile position level error = rw c.in-SetLevel.is (change_taken _ (c.set_level.ensures s) c.silent-in-SetLevel.ensures)
 
 pub returns-in-Save : goal.returns-in-Save
 unfolding asks_to_save
-returns-in-Save c s volatile position level error = rw c.in-Save.is (change_taken s _ _ c.silent-in-Save.ensures _ _ (c.save.ensures s))
+returns-in-Save c s volatile position level error = rw c.in-Save.is (change_taken _ (c.save.ensures s) c.silent-in-Save.ensures)
 
 pub returns-in-Restore : goal.returns-in-Restore
 unfolding asks_to_save
-returns-in-Restore c s volatile position level error = rw c.in-Restore.is (change_taken s _ _ c.silent-in-Restore.ensures _ _ (c.restore.ensures s level))
+returns-in-Restore c s volatile position level error = rw c.in-Restore.is (change_taken _ (c.restore.ensures s level) c.silent-in-Restore.ensures)
 
 pub returns-in-Reset : goal.returns-in-Reset
 unfolding asks_to_save
-returns-in-Reset c s volatile position level error = rw c.in-Reset.is (change_taken s _ _ c.silent-in-Reset.ensures _ _ (c.reset.ensures s level))
+returns-in-Reset c s volatile position level error = rw c.in-Reset.is (change_taken _ (c.reset.ensures s level) c.silent-in-Reset.ensures)
 
 pub returns-in-ListEnabled : goal.returns-in-ListEnabled
 unfolding asks_to_save

@@ -6,4 +6,4 @@ use Rattle.engine.proofs.lists.enabled_line.Goals as goal
 
 pub returns : goal.returns
 unfolding query_ladder first
-returns c s e = list_taken s _ e asked.enabled_ones refl _ _ _ _ c.enabled-n.ensures c.replied.ensures
+returns c s e = list_taken s _ e asked.enabled_ones refl _ _ _ _ c.enabled.ensures c.replied.ensures

@@ -1,5 +1,5 @@
 use Prim.Native.Nat.{ℕ}
-use mathlib.Core.Path.{refl, ap, ◌∙◌}
+use mathlib.Core.Path.{ap, ◌∙◌}
 use mathlib.Core.List.{◌++◌}
 use Rattle.model.specs.Effects.{with_error}
 use Rattle.model.specs.Reply.{decimal}
@@ -14,5 +14,4 @@ pub returns : goal.returns
 returns c s e =
     let st = state_of s in
     let b = c.args.reply.now in
-    cleared_taken s _ _ _ _ _ _ refl c.last_error-length.ensures
-    (obeyed_error st b ∙ ap (λ (n : ℕ). answered (with_error st 0) (decimal n ++ ascii "\n") b) e) c.accepted-decision.ensures
+    cleared_taken s _ _ _ _ c.last_error-length.ensures (obeyed_error st b ∙ ap (λ (n : ℕ). answered (with_error st 0) (decimal n ++ ascii "\n") b) e)

@@ -6,4 +6,4 @@ use Rattle.engine.proofs.lists.links_line.Goals as goal
 
 pub returns : goal.returns
 unfolding query_ladder first
-returns c s e = list_taken s _ e asked.links refl _ _ _ _ c.links-n.ensures c.replied.ensures
+returns c s e = list_taken s _ e asked.links refl _ _ _ _ c.links.ensures c.replied.ensures

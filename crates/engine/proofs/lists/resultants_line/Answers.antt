@@ -6,4 +6,4 @@ use Rattle.engine.proofs.lists.resultants_line.Goals as goal
 
 pub returns : goal.returns
 unfolding query_ladder first
-returns c s e = list_taken s _ e asked.resultants refl _ _ _ _ c.resultants-n.ensures c.replied.ensures
+returns c s e = list_taken s _ e asked.resultants refl _ _ _ _ c.resultants.ensures c.replied.ensures

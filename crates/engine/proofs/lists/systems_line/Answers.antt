@@ -6,4 +6,4 @@ use Rattle.engine.proofs.lists.systems_line.Goals as goal
 
 pub returns : goal.returns
 unfolding query_ladder first
-returns c s e = list_taken s _ e asked.systems_all refl _ _ _ _ c.systems-n.ensures c.replied.ensures
+returns c s e = list_taken s _ e asked.systems_all refl _ _ _ _ c.systems.ensures c.replied.ensures

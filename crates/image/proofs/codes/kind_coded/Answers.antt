@@ -6,39 +6,10 @@ use Rattle.model.specs.declared.Kind.{Kind}
 use Rattle.model.specs.declared.Kind.TheVariants.{Ksd, Kst, Ksw, Ksb, Kld, Ksf}
 use Rattle.model.specs.Kinds.{kinds, of_kind}
 use borrow.Author.Tests.{ne_eqb}
-use Rattle.model.specs.Told.{or_number}
 use Rattle.model.specs.Image.{kind_of}
 use Rattle.image.specs.Codes.{kind_coded}
 use Rattle.model.proofs.Told.{refuses_none}
 use Rattle.image.proofs.codes.kind_coded.Goals as goal
-
-pub returns-in-1 : goal.returns-in-1
-unfolding or_number kind_coded kind_of
-returns-in-1 c = rw c.in-1.is
-
-pub returns-in-2 : goal.returns-in-2
-unfolding or_number kind_coded kind_of
-returns-in-2 c = rw c.in-2.is
-
-pub returns-in-3 : goal.returns-in-3
-unfolding or_number kind_coded kind_of
-returns-in-3 c = rw c.in-3.is
-
-pub returns-in-4 : goal.returns-in-4
-unfolding or_number kind_coded kind_of
-returns-in-4 c = rw c.in-4.is
-
-pub returns-in-5 : goal.returns-in-5
-unfolding or_number kind_coded kind_of
-returns-in-5 c = rw c.in-5.is
-
-pub returns-in-6 : goal.returns-in-6
-unfolding or_number kind_coded kind_of
-returns-in-6 c = rw c.in-6.is
-
-pub returns-in-0 : goal.returns-in-0
-unfolding or_number kind_coded kind_of
-returns-in-0 c = rw c.in-0.in-0-own.keys7
 
 passed_over : (k : Kind) (ks : List Kind) (c : ℕ) → (c ≡ (of_kind k).code → ⊥) → kind_of (k ∷ ks) c ≡ kind_of ks c
 unfolding kind_of

@@ -1,40 +1,32 @@
-use Rattle.std.proofs.Common.{ℕ, ◌+◌, ◌≤◌, ◌≡◌, List, drop, arith}
-use borrow.Author.Tests.{not-true, not-false}
-use Rattle.model.specs.Told.{tells, or_number}
-use Rattle.model.specs.Image.{up_to, most_byte}
-use Rattle.model.proofs.Image.Numbers.{whole_up_to}
-use Rattle.model.proofs.Image.Several.{stored_low}
-use Rattle.model.proofs.Told.{told_value, tells_some, refuses_none}
-use Rattle.image.proofs.EnabledSteps.{no_first, no_places, places_read}
+use Rattle.std.proofs.Common.{◌≡◌, refl, arith}
+use Rattle.model.specs.Told.{or_number}
+use Rattle.model.specs.Image.{give, enabled_from, read_enabled}
+use Rattle.image.proofs.Steps.{refused, went_on}
 use Rattle.image.proofs.enabled.read_enabled.Goals as goal
 
-pair_le : (bs : List ℕ) (at pair next : ℕ) → tells (pair, drop next bs) ≡ or_number 14 (up_to 1 (drop at bs)) → pair ≤ 1
-pair_le bs at pair next e = (whole_up_to 1 _ _ _ (told_value 14 _ _ e)).1
+pub returns-in_err-read_number : goal.returns-in_err-read_number
+unfolding read_enabled
+returns-in_err-read_number c = rw c.from_residual.ensures (refused _ _ _ c.in_err-read_number.ensures.told)
 
-pub returns-in_default : goal.returns-in_default
-returns-in_default c = refuses_none 14 (no_first _ (told_value 14 _ _ c.in_default.ensures))
+pub returns-in_err-p : goal.returns-in_err-p
+unfolding read_enabled
+returns-in_err-p c =
+    rw c.from_residual-in_err-p.ensures (went_on _ _ _ (rw c.if-branch-eq0.true at c.in_ok-read_number.ensures.told) (refused _ _ _ c.in_err-p.ensures.told))
 
-pub overflow_add-pair : goal.overflow_add-pair
-overflow_add-pair c = record { fits = omega (arith, pair_le c.args.bytes.now c.args.at _ c.in-Read.next c.in-Read.ensures) }
+pub returns-then-branch-eq0 : goal.returns-then-branch-eq0
+unfolding read_enabled give enabled_from or_number
+returns-then-branch-eq0 c = went_on _ _ _ (rw c.if-branch-eq0.true at c.in_ok-read_number.ensures.told) (went_on _ _ _ c.in_ok-p.ensures.told refl)
 
-pub read_numbers-places-requires : goal.read_numbers-places-requires
-read_numbers-places-requires c = omega (arith, pair_le c.args.bytes.now c.args.at _ c.in-Read.next c.in-Read.ensures)
-
-pub returns-then-not-places : goal.returns-then-not-places
-returns-then-not-places c =
-    let p = c.read_numbers-places in
-    let e = told_value 14 _ _ (rw (not-true _ c.if-not-places.true) at p.ensures) in
-    refuses_none 14 (no_places _ _ _ (told_value 14 _ _ c.in-Read.ensures) e)
-
-pub enabled_from-enabled-requires : goal.enabled_from-enabled-requires
-enabled_from-enabled-requires c =
-    let p = c.read_numbers-places in
-    let e = told_value 14 _ _ (rw (not-false _ c.if-not-places.false) at p.ensures) in
-    (pair_le c.args.bytes.now c.args.at _ c.in-Read.next c.in-Read.ensures, stored_low most_byte (3 + c.in-Read.pair) _ p.result.values _ e)
+pub returns-in_err-w : goal.returns-in_err-w
+unfolding read_enabled
+returns-in_err-w c =
+    let n = c.in_ok-read_number in
+    let pair : n.field-0 ≡ 1 = omega (arith, n.ensures.within, c.if-branch-eq0.false) in
+    rw c.from_residual-in_err-w.ensures (went_on _ _ _ (rw pair at n.ensures.told) (refused _ _ _ c.in_err-w.ensures.told))
 
 pub returns : goal.returns
+unfolding read_enabled give enabled_from or_number
 returns c =
-    let p = c.read_numbers-places in
-    let e = told_value 14 _ _ (rw (not-false _ c.if-not-places.false) at p.ensures) in
-    let low = pair_le c.args.bytes.now c.args.at _ c.in-Read.next c.in-Read.ensures in
-    rw c.enabled_from-enabled.ensures (tells_some 14 (places_read _ _ _ (told_value 14 _ _ c.in-Read.ensures) p.result.values _ low e))
+    let n = c.in_ok-read_number in
+    let pair : n.field-0 ≡ 1 = omega (arith, n.ensures.within, c.if-branch-eq0.false) in
+    went_on _ _ _ (rw pair at n.ensures.told) (went_on _ _ _ c.in_ok-w.ensures.told refl)

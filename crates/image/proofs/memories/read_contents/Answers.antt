@@ -1,30 +1,25 @@
-use borrow.Author.Tests.{not-true, not-false, le-leb}
+use Rattle.std.proofs.Common.{refl}
+use borrow.Author.Tests.{le-leb}
 use Rattle.model.specs.Limits.{max_systems}
+use Rattle.model.specs.Told.{or_number}
 use Rattle.model.specs.Stored.{memory_shaped}
+use Rattle.model.specs.Image.{give, read_contents}
 use Rattle.model.proofs.Basics.{and_join}
-use Rattle.model.proofs.Told.{told_value, tells_some, refuses_none}
-use Rattle.image.proofs.MemorySteps.{no_systems, no_enabled, contents_there}
+use Rattle.image.proofs.Steps.{refused, went_on}
 use Rattle.image.proofs.memories.read_contents.Goals as goal
 
-pub returns-then-not-listed : goal.returns-then-not-listed
-returns-then-not-listed c =
-    let e = told_value 14 _ _ (rw (not-true _ c.if-not-listed.true) at c.read_systems-listed.ensures.result_value) in
-    let n = c.no_memory.ensures in
-    (rw n.0 (refuses_none 14 (no_systems _ _ e)), n.1)
+pub returns-in_err-systems-clause-told : goal.returns-in_err-systems-clause-told
+unfolding read_contents
+returns-in_err-systems-clause-told c = rw c.from_residual.ensures (refused _ _ _ c.in_err-systems.ensures.told)
 
-pub returns-in_default : goal.returns-in_default
-returns-in_default c =
-    let el = told_value 14 _ _ (rw (not-false _ c.if-not-listed.false) at c.read_systems-listed.ensures.result_value) in
-    let e = told_value 14 _ _ c.in_default.ensures in
-    let n = c.no_memory-in_default.ensures in
-    (rw n.0 (refuses_none 14 (no_enabled _ _ _ _ el e)), n.1)
+pub returns-in_err-enabled-clause-told : goal.returns-in_err-enabled-clause-told
+unfolding read_contents
+returns-in_err-enabled-clause-told c =
+    rw c.from_residual-in_err-enabled.ensures (went_on _ _ _ c.in_ok-systems.ensures.told (refused _ _ _ c.in_err-enabled.ensures))
 
 pub returns : goal.returns
-unfolding memory_shaped
-returns c =
-    let l = c.read_systems-listed in
-    let el = told_value 14 _ _ (rw (not-false _ c.if-not-listed.false) at l.ensures.result_value) in
-    let e = told_value 14 _ _ c.in-There.ensures in (
-      tells_some 14 (contents_there _ _ _ _ el c.in-There.enabled _ e),
-      and_join (le-leb c.args.count max_systems c.requires) (l.ensures.systems_value (not-false _ c.if-not-listed.false)),
-    )
+unfolding read_contents give or_number memory_shaped
+returns c = record {
+  told = went_on _ _ _ c.in_ok-systems.ensures.told (went_on _ _ _ c.in_ok-enabled.ensures refl);
+  shaped = and_join (le-leb c.args.count max_systems c.requires) c.in_ok-systems.ensures.shaped;
+}

@@ -1,33 +1,24 @@
-use Rattle.std.proofs.Common.{sym, ap, ◌∙◌}
-use borrow.Author.Tests.{not-true, not-false}
 use Rattle.model.specs.Told.{or_number}
-use Rattle.model.proofs.Told.{told_value, refuses_none}
-use Rattle.image.proofs.MemorySteps.{no_head, other_edition, too_many, headed}
+use borrow.Author.Tests.{ne_eqb, eq-eqb, lt-leb, le-leb}
+use Rattle.model.specs.Image.{fail, read_memory}
+use Rattle.image.proofs.Steps.{refused, went_on}
 use Rattle.image.proofs.memories.read_memory.Goals as goal
 
-pub returns-then-not-head : goal.returns-then-not-head
-returns-then-not-head c =
-    let e = told_value 14 _ _ (rw (not-true _ c.if-not-head.true) at c.read_numbers-head.ensures) in
-    let n = c.no_memory.ensures in
-    (rw n.0 (refuses_none 14 (no_head _ e)), n.1)
+pub returns-in_err-edition-clause-told : goal.returns-in_err-edition-clause-told
+unfolding read_memory
+returns-in_err-edition-clause-told c = rw c.from_residual.ensures (refused _ _ _ c.in_err-edition.ensures.told)
 
-pub returns-then-h-ne-EDITION : goal.returns-then-h-ne-EDITION
-returns-then-h-ne-EDITION c =
-    let h = c.read_numbers-head in
-    let eh = told_value 14 _ _ (rw (not-false _ c.if-not-head.false) at h.ensures) in
-    let n = c.no_memory-then-h-ne-EDITION.ensures in
-    (rw n.0 (refuses_none 14 (other_edition _ h.result.values _ eh c.if-h-ne-EDITION.true)), n.1)
+pub returns-then-edition-ne-EDITION-clause-told : goal.returns-then-edition-ne-EDITION-clause-told
+unfolding read_memory fail or_number
+returns-then-edition-ne-EDITION-clause-told c = went_on _ _ _ c.in_ok-edition.ensures.told (rw (ne_eqb _ _ c.if-edition-ne-EDITION.true))
 
-pub returns-then-count-gt-MAX_SYSTEMS : goal.returns-then-count-gt-MAX_SYSTEMS
-returns-then-count-gt-MAX_SYSTEMS c =
-    let h = c.read_numbers-head in
-    let eh = told_value 14 _ _ (rw (not-false _ c.if-not-head.false) at h.ensures) in
-    let n = c.no_memory-then-count-gt-MAX_SYSTEMS.ensures in
-    (rw n.0 (refuses_none 14 (too_many _ h.result.values _ eh c.if-h-ne-EDITION.false c.if-count-gt-MAX_SYSTEMS.true)), n.1)
+pub returns-then-count-gt-MAX_SYSTEMS-clause-told : goal.returns-then-count-gt-MAX_SYSTEMS-clause-told
+unfolding read_memory fail or_number
+returns-then-count-gt-MAX_SYSTEMS-clause-told c =
+    went_on _ _ _ c.in_ok-edition.ensures.told (rw (eq-eqb _ _ c.if-edition-ne-EDITION.false, lt-leb _ _ c.if-count-gt-MAX_SYSTEMS.true))
 
-pub returns : goal.returns
-returns c =
-    let h = c.read_numbers-head in
-    let eh = told_value 14 _ _ (rw (not-false _ c.if-not-head.false) at h.ensures) in
-    let r = c.read_contents.ensures in
-    (r.0 ∙ ap (or_number 14) (sym (headed _ h.result.values _ eh c.if-h-ne-EDITION.false c.if-count-gt-MAX_SYSTEMS.false)), r.1)
+pub returns-clause-told : goal.returns-clause-told
+unfolding read_memory
+returns-clause-told c =
+    went_on _ _ _ c.in_ok-edition.ensures.told
+    (rw (eq-eqb _ _ c.if-edition-ne-EDITION.false, le-leb _ _ c.if-count-gt-MAX_SYSTEMS.false) c.read_contents.ensures.told)

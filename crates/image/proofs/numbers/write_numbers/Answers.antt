@@ -1,37 +1,29 @@
-use Rattle.std.proofs.Common.{ℕ, ◌+◌, ◌≤◌, ◌<◌, ◌≡◌, List, ◌++◌, refl, length, take, drop, arith, rules}
-use lib.ListN.{get_or}
+use Rattle.std.proofs.Common.{◌+◌, ◌++◌, refl, drop, get_or}
 use Rattle.model.specs.Image.{whole, numbers}
 use Rattle.print.proofs.Left.{Left, left_all, left_done, left_wrote, left_fits}
 use Rattle.image.proofs.NumbersLeft.{numbers_turn, numbers_end}
+use Rattle.image.proofs.numbers.write_numbers.Goals.{In-loop-value}
 use Rattle.image.proofs.numbers.write_numbers.Goals as goal
 
 -- the next number, before those that are left after it
-next_left : (values : List ℕ) (count at i next : ℕ) (before out : List ℕ) → length values ≡ 4 → count ≤ 4 → i < count
-    → Left (numbers (take count values)) at before (numbers (drop i (take count values))) next out
-    → Left (numbers (take count values)) at before (whole (get_or values i 0) ++ numbers (drop (i + 1) (take count values))) next out
-next_left values count at i next before out l h g left = rw (numbers_turn values count i (omega (arith, l, h)) g) at left
+next_left : (c : In-loop-value) → (
+    let l = c.loop-value in
+    let v = c.args.values.now in
+    Left (numbers v) c.args.at c.args.out.now (whole (get_or v l.value-index 0) ++ numbers (drop (l.value-index + 1) v)) l.next l.out
+    )
+next_left c = rw (numbers_turn c.args.values.now c.loop-value.value-index c.loop-value-test.true) at c.loop-value.invariant
 
-pub loop-i-init : goal.loop-i-init
-loop-i-init c = (omega arith, left_all refl c.requires.1)
-
-pub bounds-values-i : goal.bounds-values-i
-bounds-values-i c = omega (arith, c.loop-i-test.true, c.requires.0)
+pub loop-value-init : goal.loop-value-init
+loop-value-init c = left_all refl c.requires
 
 pub write_number-next-requires : goal.write_number-next-requires
 write_number-next-requires c =
-    let a = c.args in
-    let long : length a.values ≡ 4 = search rules in
-    left_fits (whole (get_or a.values c.loop-i.i 0)) (numbers (drop (c.loop-i.i + 1) (take a.count a.values)))
-    (next_left a.values a.count _ c.loop-i.i _ _ _ long c.requires.0 c.loop-i-test.true c.loop-i.invariant.1)
+    let i = c.loop-value.value-index in
+    let v = c.args.values.now in
+    left_fits (whole (get_or v i 0)) (numbers (drop (i + 1) v)) (next_left (goal.at.write_number-next-requires c).In-loop-value)
 
-pub loop-i-preserved : goal.loop-i-preserved
-loop-i-preserved c =
-    let a = c.args in
-    let long : length a.values ≡ 4 = search rules in
-    (omega (arith, c.loop-i-test.true), left_wrote (next_left a.values a.count _ c.loop-i.i _ _ _ long c.requires.0 c.loop-i-test.true c.loop-i.invariant.1) c.write_number-next.ensures)
+pub loop-value-preserved : goal.loop-value-preserved
+loop-value-preserved c = left_wrote (next_left (goal.at.loop-value-preserved c).In-loop-value) c.write_number-next.ensures
 
 pub returns : goal.returns
-returns c =
-    let a = c.args in
-    let long : length a.values ≡ 4 = search rules in
-    left_done (rw (numbers_end a.values a.count c.loop-i.i (omega (arith, long, c.requires.0)) c.loop-i-test.false) at c.loop-i.invariant.1)
+returns c = left_done (rw (numbers_end c.args.values.now c.loop-value.value-index c.loop-value-test.false) at c.loop-value.invariant)

@@ -1,12 +1,7 @@
-use Prim.Native.Nat.{◌-◌, ◌≤◌}
-use lib.ListN.{take, drop}
+use Rattle.std.proofs.Common.{drop}
 use Rattle.model.specs.Image.{numbers}
 use Rattle.print.proofs.Left.{Left}
 use Rattle.image.proofs.numbers.write_numbers.Given as goal
 
-abbrev pub invariant-loop-i : goal.invariant-loop-i
-invariant-loop-i l =
-    (l.i ≤ l.count) × Left (numbers (take l.count l.values)) l.at l.initial.out (numbers (drop l.i (take l.count l.values))) l.next l.out
-
-abbrev pub decreases-loop-i : goal.decreases-loop-i
-decreases-loop-i l = l.count - l.i
+abbrev pub invariant-loop-value : goal.invariant-loop-value
+invariant-loop-value l = Left (numbers l.values) l.at l.initial.out (numbers (drop l.value-index l.values)) l.next l.out

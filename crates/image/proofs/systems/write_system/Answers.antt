@@ -1,75 +1,52 @@
-use Rattle.std.proofs.Common.{ℕ, ◌+◌, ◌≤◌, ◌≡◌, List, [], ◌∷◌, ◌++◌, true, length, take, arith, rules}
+use Rattle.std.proofs.Common.{◌≡◌, [], ◌∷◌, ◌++◌, length, rules}
+use mir.Syntax.{w64}
+use mir.Val.{to_z, of_z}
 use borrow.Author.Tests.{leb-true}
 use Rattle.model.specs.Limits.{name_limit}
-use Rattle.model.specs.Kinds.{of_kind}
-use Rattle.model.specs.declared.System.{System}
-use Rattle.model.specs.Image.{signed_code, numbers, system_bytes}
-use Rattle.model.specs.Stored.{bytes_of, system_of, name_shaped}
+use Rattle.model.specs.Image.{numbers, system_bytes}
+use Rattle.model.specs.Stored.{bytes_of, system_of}
 use Rattle.print.proofs.Left.{Left, left_all, left_wrote, left_fits, left_done}
 use Rattle.image.proofs.SystemLeft.{system_parts}
+use Rattle.image.proofs.systems.write_system.Goals.{After-from-6}
 use Rattle.image.proofs.systems.write_system.Goals as goal
 
-short : (s : System) → name_shaped s ≡ true → s.name.len ≤ name_limit
-short s f = leb-true s.name.len name_limit f
-
 -- all of it is left to write, as its parts: head, name, offsets and turns
-all_left : (s : System) (h o t : List ℕ) (at : ℕ) (out : List ℕ) → length s.name.bytes ≡ name_limit → name_shaped s ≡ true
-    → take 2 h ≡ (of_kind s.kind).code ∷ s.name.len ∷ []
-    → take 3 o ≡ signed_code s.offset.x ∷ signed_code s.offset.y ∷ signed_code s.offset.z ∷ []
-    → take 4 t ≡ s.turns.u ∷ s.turns.v ∷ s.turns.w ∷ s.pred ∷ []
-    → at + length (system_bytes (system_of s)) ≤ length out
-    → Left (system_bytes (system_of s)) at out (numbers (take 2 h) ++ (bytes_of s.name ++ (numbers (take 3 o) ++ (numbers (take 4 t) ++ [])))) at out
-all_left s h o t at out long f eh eo et room = left_all (system_parts s h o t long (short s f) eh eo et) room
+all_left : (c : After-from-6) → (
+    let s = c.args.s in
+    let head = numbers (c.from.result ∷ c.from-2.result ∷ []) in
+    let offsets = numbers (c.signed_code.result ∷ c.signed_code-2.result ∷ c.signed_code-3.result ∷ []) in
+    let turned = numbers (c.from-3.result ∷ c.from-4.result ∷ c.from-5.result ∷ c.from-6.result ∷ []) in
+    Left (system_bytes (system_of s)) c.args.at c.args.out.now (head ++ (bytes_of s.name ++ (offsets ++ (turned ++ [])))) c.args.at c.args.out.now
+    )
+all_left c =
+    let long : length c.args.s.name.bytes ≡ name_limit = search rules in
+    let o = c.args.s.offset in
+    let x : to_z w64 (of_z w64 o.x) ≡ o.x = search rules in
+    let y : to_z w64 (of_z w64 o.y) ≡ o.y = search rules in
+    let z : to_z w64 (of_z w64 o.z) ≡ o.z = search rules in
+    rw (c.from.ensures, c.code_of.ensures, c.from-2.ensures, c.signed_code.ensures, c.signed_code-2.ensures, c.signed_code-3.ensures, c.from-3.ensures, c.from-4.ensures, c.from-5.ensures, c.from-6.ensures, x, y, z)
+    (left_all (system_parts c.args.s long (leb-true c.args.s.name.len name_limit c.requires.shaped)) c.requires.room)
 
 pub write_numbers-named_at-requires : goal.write_numbers-named_at-requires
-write_numbers-named_at-requires c =
-    let s = c.args.s in
-    let h = c.head_of-head in
-    let o = c.offsets_of-offsets in
-    let t = c.turned_of-turned in
-    let long : length s.name.bytes ≡ name_limit = search rules in
-    let all = all_left s h.result o.result t.result c.args.at c.args.out.now long c.requires.s_value.0 h.ensures o.ensures t.ensures c.requires.s_value.1 in
-    (omega arith, left_fits (numbers (take 2 h.result)) (bytes_of s.name ++ (numbers (take 3 o.result) ++ (numbers (take 4 t.result) ++ []))) all)
+write_numbers-named_at-requires c = left_fits _ _ (all_left (goal.at.write_numbers-named_at-requires c).After-from-6)
 
 pub put_name-placed_at-requires : goal.put_name-placed_at-requires
 put_name-placed_at-requires c =
-    let s = c.args.s in
-    let h = c.head_of-head in
-    let o = c.offsets_of-offsets in
-    let t = c.turned_of-turned in
-    let long : length s.name.bytes ≡ name_limit = search rules in
-    let all = all_left s h.result o.result t.result c.args.at c.args.out.now long c.requires.s_value.0 h.ensures o.ensures t.ensures c.requires.s_value.1 in
-    (short s c.requires.s_value.0, left_fits (bytes_of s.name) (numbers (take 3 o.result) ++ (numbers (take 4 t.result) ++ [])) (left_wrote all c.write_numbers-named_at.ensures))
+    let all = all_left (goal.at.put_name-placed_at-requires c).After-from-6 in
+    (leb-true c.args.s.name.len name_limit c.requires.shaped, left_fits _ _ (left_wrote all c.write_numbers-named_at.ensures))
 
 pub write_numbers-turned_at-requires : goal.write_numbers-turned_at-requires
 write_numbers-turned_at-requires c =
-    let s = c.args.s in
-    let h = c.head_of-head in
-    let o = c.offsets_of-offsets in
-    let t = c.turned_of-turned in
-    let long : length s.name.bytes ≡ name_limit = search rules in
-    let all = all_left s h.result o.result t.result c.args.at c.args.out.now long c.requires.s_value.0 h.ensures o.ensures t.ensures c.requires.s_value.1 in
-    let placed = left_wrote (left_wrote all c.write_numbers-named_at.ensures) c.put_name-placed_at.ensures in
-    (omega arith, left_fits (numbers (take 3 o.result)) (numbers (take 4 t.result) ++ []) placed)
+    let all = all_left (goal.at.write_numbers-turned_at-requires c).After-from-6 in
+    left_fits _ _ (left_wrote (left_wrote all c.write_numbers-named_at.ensures) c.put_name-placed_at.ensures)
 
 pub write_numbers-requires : goal.write_numbers-requires
 write_numbers-requires c =
-    let s = c.args.s in
-    let h = c.head_of-head in
-    let o = c.offsets_of-offsets in
-    let t = c.turned_of-turned in
-    let long : length s.name.bytes ≡ name_limit = search rules in
-    let all = all_left s h.result o.result t.result c.args.at c.args.out.now long c.requires.s_value.0 h.ensures o.ensures t.ensures c.requires.s_value.1 in
-    let placed = left_wrote (left_wrote all c.write_numbers-named_at.ensures) c.put_name-placed_at.ensures in
-    (omega arith, left_fits (numbers (take 4 t.result)) [] (left_wrote placed c.write_numbers-turned_at.ensures))
+    let all = all_left (goal.at.write_numbers-requires c).After-from-6 in
+    left_fits _ _ (left_wrote (left_wrote (left_wrote all c.write_numbers-named_at.ensures) c.put_name-placed_at.ensures) c.write_numbers-turned_at.ensures)
 
 pub returns : goal.returns
 returns c =
-    let s = c.args.s in
-    let h = c.head_of-head in
-    let o = c.offsets_of-offsets in
-    let t = c.turned_of-turned in
-    let long : length s.name.bytes ≡ name_limit = search rules in
-    let all = all_left s h.result o.result t.result c.args.at c.args.out.now long c.requires.s_value.0 h.ensures o.ensures t.ensures c.requires.s_value.1 in
-    let placed = left_wrote (left_wrote all c.write_numbers-named_at.ensures) c.put_name-placed_at.ensures in
-    left_done (left_wrote (left_wrote placed c.write_numbers-turned_at.ensures) c.write_numbers.ensures)
+    let all = all_left (goal.at.returns c).After-from-6 in
+    left_done
+    (left_wrote (left_wrote (left_wrote (left_wrote all c.write_numbers-named_at.ensures) c.put_name-placed_at.ensures) c.write_numbers-turned_at.ensures) c.write_numbers.ensures)

@@ -1,39 +1,21 @@
-use Prim.Native.Nat.{min}
-use mathlib.Core.Path.{◌≡◌, refl, sym, ap, ◌∙◌}
-use native.Mathlib.Omega.{arith}
-use borrow.Author.Rules.{rules}
-use lib.ListN.{length, length-map, length-set}
-use lib.Seq.{take_all}
+use Rattle.std.proofs.Common.{◌≡◌, ◌≤◌, ◌∙◌, length, map, sym, ap, arith, rules, length-take}
+use Rattle.std.proofs.Math.ListN.{length-set, length-map, get_or-map}
 use Rattle.model.specs.Limits.{max_systems}
 use Rattle.model.specs.Memory.{System}
-use Rattle.model.specs.Stored.{systems_of}
-use Rattle.chains.proofs.Copies.{length_mapped}
+use Rattle.model.specs.Stored.{system_of}
+use Rattle.chains.proofs.Copies.{length_mapped, unset}
 use Rattle.memory.specs.Keys.{key_of, keys_of}
-use Rattle.memory.proofs.Laws.{mapped_at, length_systems, system_at_lem, filled_turn}
-use Rattle.memory.proofs.distinct.name_keys.Goals.{Start}
-use Rattle.memory.proofs.distinct.name_keys.Goals.{At-loop-i}
+use Rattle.memory.proofs.Laws.{mapped_at, filled_turn}
 use Rattle.memory.proofs.distinct.name_keys.Goals as goal
-
-long : (c : Start) → length c.args.m.systems ≡ max_systems
-long c = search (length_mapped, rules)
-
--- there are as many keys as systems
-keyed : (c : At-loop-i) → length (keys_of (systems_of c.args.m)) ≡ c.held-count.result
-keyed c = length-map (systems_of c.args.m) (λ (s : System). key_of s.name) ∙ length_systems c.args.m _ ((search (length_mapped, rules))) c.held-count.ensures
-
-pub loop-i-init : goal.loop-i-init
-loop-i-init c = (search rules, refl, refl)
 
 pub loop-i-preserved : goal.loop-i-preserved
 loop-i-preserved c =
-    let k = c.held-count.ensures in
-    let n = keyed (goal.at.loop-i-preserved c).At-loop-i in
-    let at = system_at_lem c.args.m _ (long (goal.at.loop-i-preserved c).Start) k c.loop-i.i c.loop-i-test.true in
-    let e = mapped_at (λ (s : System). key_of s.name) (systems_of c.args.m) c.loop-i.i (omega (arith, length_systems c.args.m _ (long (goal.at.loop-i-preserved c).Start) k)) ∙ ap (λ (s : System). key_of s.name) at in
-    (omega arith, simp length-set c.loop-i.invariant.1, filled_turn c.loop-i.keys (keys_of (systems_of c.args.m)) c.loop-i.i _ 0 (omega arith) (omega arith) c.loop-i.invariant.2 (c.name_key.ensures ∙ sym e))
-
-pub returns : goal.returns
-returns c =
-    let n = keyed (goal.at.returns c).At-loop-i in
-    let i : min c.args.m.count max_systems ≡ c.loop-i.i = omega (arith, c.held-count.ensures) in
-    rw i (c.loop-i.invariant.2 ∙ take_all c.loop-i.i _ (omega arith))
+    let w = c.loop-i in
+    let m = c.args.m in
+    let xs = c.held-s-items.result.now in
+    let l = map system_of xs in
+    let long : length m.systems ≡ max_systems = search (length_mapped, rules) in
+    let few : length xs ≤ max_systems = omega (arith, ap length c.held-s-items.ensures, length-take m.count m.systems) in
+    let many : length (keys_of l) ≡ length xs = length-map l (λ (s : System). key_of s.name) ∙ length-map xs system_of in
+    let e = mapped_at (λ (s : System). key_of s.name) l w.i (omega (arith, length-map xs system_of)) ∙ ap (λ (s : System). key_of s.name) (get_or-map system_of xs w.i unset) in
+    (simp length-set w.invariant.0, filled_turn w.keys (keys_of l) w.i _ 0 (omega arith) (omega arith) w.invariant.1 (c.name_key.ensures ∙ sym e))

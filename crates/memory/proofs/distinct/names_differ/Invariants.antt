@@ -1,13 +1,13 @@
-use Prim.Native.Nat.{◌+◌, ◌*◌, ◌-◌, ◌<◌, ◌≤◌}
-use mathlib.Core.Path.{◌≡◌}
-use Rattle.model.specs.Limits.{max_systems}
+use Rattle.std.proofs.Common.{◌≡◌, drop, map}
 use Rattle.model.specs.WellFormed.{names_differ}
-use Rattle.model.specs.Stored.{systems_of}
+use Rattle.model.specs.Stored.{system_of}
 use Rattle.memory.proofs.Differ.{left}
 use Rattle.memory.proofs.distinct.names_differ.Given as goal
 
+-- the systems before i differ from all others
 abbrev pub invariant-loop-i : goal.invariant-loop-i
-invariant-loop-i l = (l.i ≤ l.count) × (l.i < l.j) × (names_differ (systems_of l.m) ≡ left (systems_of l.m) l.i l.j)
+invariant-loop-i l = names_differ (map system_of l.systems) ≡ names_differ (drop l.i (map system_of l.systems))
 
-abbrev pub decreases-loop-i : goal.decreases-loop-i
-decreases-loop-i l = (l.count - l.i) * (max_systems + 1) + (l.count - l.j)
+-- and i from those before j
+abbrev pub invariant-loop-j : goal.invariant-loop-j
+invariant-loop-j l = names_differ (map system_of l.systems) ≡ left (map system_of l.systems) l.i l.j

@@ -5,6 +5,6 @@ use Rattle.memory.proofs.edit.fresh_system.Goals as goal
 pub returns : goal.returns
 unfolding fresh
 returns c = record {
-  result_value = λ l. rw (c.first_pred-pred.ensures, c.group_of-group.ensures);
+  stands_for = λ l. rw (c.first_pred-pred.ensures, c.group_of-group.ensures);
   name_value = refl;
 }

@@ -28,8 +28,8 @@ returns-then-place-eq0 c =
     let h = long (goal.at.returns-then-place-eq0 c).Start in
     let lt : a.m.count < length a.m.systems = omega (arith, c.requires.1 c.if-place-eq0.true) in
     let e = stored_last a.m.systems a.m.count a.s lt in record {
-      result_value = rw c.if-place-eq0.true (λ i. record { systems = e i; enabled = a.m.enabled });
-      result_value_2 = λ p q. shaped_more a.m p a.s q (omega arith) lt;
+      stands_for = rw c.if-place-eq0.true (λ i. record { systems = e i; enabled = a.m.enabled });
+      shaped = λ p q. shaped_more a.m p a.s q (omega arith) lt;
     }
 
 pub returns : goal.returns
@@ -37,6 +37,6 @@ unfolding put_at
 returns c =
     let a = c.args in
     let e = stored_set a.m.systems a.m.count (a.place - 1) a.s in record {
-      result_value = rw (lt-ltb 0 a.place (omega arith)) (λ i. record { systems = e i; enabled = a.m.enabled });
-      result_value_2 = λ p q. shaped_set a.m p a.s q (a.place - 1);
+      stands_for = rw (lt-ltb 0 a.place (omega arith)) (λ i. record { systems = e i; enabled = a.m.enabled });
+      shaped = λ p q. shaped_set a.m p a.s q (a.place - 1);
     }

@@ -6,6 +6,6 @@ use Rattle.memory.proofs.factory.factory_memory.Goals as goal
 pub returns : goal.returns
 unfolding memory_shaped all
 returns c = record {
-  result_value = refl;
-  result_value_2 = refl;
+  stands_for = refl;
+  shaped = refl;
 }

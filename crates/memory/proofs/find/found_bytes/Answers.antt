@@ -9,8 +9,9 @@ use Rattle.memory.proofs.find.found_bytes.Goals as goal
 pub returns-then-place-gt0 : goal.returns-then-place-gt0
 unfolding find is_user or_number found_told found_place
 returns-then-place-gt0 c = record {
-  result_value = λ l e q. rw (← q, lt-ltb 0 _ c.if-place-gt0.true);
-  result_value_2 = (refl, c.if-place-gt0.true);
+  told = λ l e q. rw (← q, lt-ltb 0 _ c.if-place-gt0.true);
+  place_value = refl;
+  real = c.if-place-gt0.true;
 }
 
 pub returns : goal.returns
@@ -18,6 +19,7 @@ unfolding find is_user
 returns c =
     let z : c.args.place ≡ 0 = omega arith in
     let fixed = c.fixed_named.ensures in record {
-      result_value = λ l e q. rw (← q, le-ltb 0 _ c.if-place-gt0.false) (fixed.result_value l);
-      result_value_2 = (fixed.result_value_2.0 ∙ sym z, fixed.result_value_2.1);
+      told = λ l e q. rw (← q, le-ltb 0 _ c.if-place-gt0.false) (fixed.told l);
+      place_value = fixed.place_value ∙ sym z;
+      real = fixed.real;
     }

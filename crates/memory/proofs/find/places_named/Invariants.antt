@@ -1,6 +1,4 @@
-use Prim.Native.Nat.{◌-◌, ◌≤◌}
-use mathlib.Core.Path.{◌≡◌}
-use lib.ListN.{length, take}
+use Rattle.std.proofs.Common.{◌≡◌, length, take}
 use Rattle.model.specs.Limits.{max_systems}
 use Rattle.model.specs.Stored.{bytes_of}
 use Rattle.chains.proofs.Copies.{preds_before}
@@ -9,7 +7,4 @@ use Rattle.memory.proofs.find.places_named.Given as goal
 
 abbrev pub invariant-loop-i : goal.invariant-loop-i
 invariant-loop-i l =
-    (l.i ≤ l.count) × Seen l.m (bytes_of l.a) l.i l.first l.one × Seen l.m (bytes_of l.b) l.i l.second l.other × (length l.preds ≡ max_systems) × (take l.i l.preds ≡ preds_before l.m.systems l.i)
-
-abbrev pub decreases-loop-i : goal.decreases-loop-i
-decreases-loop-i l = l.count - l.i
+    Seen l.systems (bytes_of l.a) l.i l.first l.one × Seen l.systems (bytes_of l.b) l.i l.second l.other × (length l.preds ≡ max_systems) × (take l.i l.preds ≡ preds_before l.systems l.i)

@@ -3,4 +3,4 @@ use Rattle.memory.proofs.fine.enabled_fine.Goals as goal
 
 pub returns : goal.returns
 unfolding enabled_fine
-returns c = λ l e. rw (c.operating_fine.ensures l e, c.is_kind.ensures l e, c.is_kind-2.ensures l e)
+returns c = rw (c.operating_fine.ensures, c.is_kind.ensures, c.is_kind-2.ensures)

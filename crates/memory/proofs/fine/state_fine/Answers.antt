@@ -17,8 +17,8 @@ returns-then-not-values_fine c = rw (state_judged c.args.s, sym c.values_fine.en
 pub returns-then-not-position_fine : goal.returns-then-not-position_fine
 returns-then-not-position_fine c = rw (state_judged c.args.s, sym c.values_fine.ensures ∙ c.if-not-values_fine.false, sym c.position_fine.ensures ∙ c.if-not-position_fine.true)
 
-pub returns-then-not-memory_fine : goal.returns-then-not-memory_fine
-returns-then-not-memory_fine c = rw (small (goal.at.returns-then-not-memory_fine c).Else-not-position_fine, sym c.memory_fine.ensures ∙ c.if-not-memory_fine.true)
+pub returns-else-memory_fine : goal.returns-else-memory_fine
+returns-else-memory_fine c = c.if-memory_fine.false ∙ rw (small (goal.at.returns-else-memory_fine c).Else-not-position_fine, sym c.memory_fine.ensures ∙ c.if-memory_fine.false)
 
-pub returns : goal.returns
-returns c = rw (small (goal.at.returns c).Else-not-position_fine, sym c.memory_fine.ensures ∙ c.if-not-memory_fine.false) c.memory_fine-2.ensures
+pub returns-then-memory_fine : goal.returns-then-memory_fine
+returns-then-memory_fine c = rw (small (goal.at.returns-then-memory_fine c).Else-not-position_fine, sym c.memory_fine.ensures ∙ c.if-memory_fine.true) c.memory_fine-then-memory_fine.ensures

@@ -1,31 +1,34 @@
-use mathlib.Core.Path.{refl, sym, ◌∙◌}
-use native.Mathlib.Omega.{arith}
-use borrow.Author.Rules.{rules}
-use Rattle.model.specs.Words.{name_byte}
-use Rattle.text.proofs.Lists.{all_next, all_stop, all_end}
+use Rattle.std.proofs.Common.{◌≡◌, ◌-◌, ◌≤◌, ◌∙◌, length, take, drop, get_or, sym, true, false, arith, rules, tests}
+use Rattle.std.proofs.Math.ListN.{length-drop}
+use Rattle.std.proofs.Math.Seq.{take_all}
+use Rattle.std.proofs.lemmas.Iterator.{cases_from_all, YieldsList-from_slice}
+use borrow.Author.Tests.{lt-leb}
+use Rattle.model.proofs.Basics.{true_false}
+use Rattle.model.specs.Limits.{name_limit}
+use Rattle.model.specs.Words.{capital, name_byte}
 use Rattle.text.proofs.NameLaws.{legal_none, legal_long, legal_first, legal_rest}
+use Rattle.memory.proofs.Tests.{all_told}
+use Rattle.memory.proofs.names.legal_bytes.Goals.{then-t-le-NAME_LIMIT, else-t-le-NAME_LIMIT}
 use Rattle.memory.proofs.names.legal_bytes.Goals as goal
 
-pub returns-then-n-eq0 : goal.returns-then-n-eq0
-returns-then-n-eq0 c = sym (legal_none _ c.if-n-eq0.true)
+pub returns-in-empty : goal.returns-in-empty
+returns-in-empty c = sym (legal_none _ (omega arith))
 
-pub returns-then-n-gt-NAME_LIMIT : goal.returns-then-n-gt-NAME_LIMIT
-returns-then-n-gt-NAME_LIMIT c = sym (legal_long _ c.if-n-gt-NAME_LIMIT.true)
+pub returns-then-between : goal.returns-then-between
+returns-then-between c =
+    let t = c.args.t.now in
+    let few : length t ≤ name_limit = elim c.if-t-le-NAME_LIMIT.branch [ then-t-le-NAME_LIMIT w ↦ w.if-t-le-NAME_LIMIT.true | else-t-le-NAME_LIMIT w ↦ true_false (sym c.if-between.true ∙ w.value-is ∙ lt-leb _ name_limit w.if-t-le-NAME_LIMIT.false) ] in
+    let first : capital (get_or t 0 0) ≡ true =
+    elim c.if-t-le-NAME_LIMIT.branch [ then-t-le-NAME_LIMIT w ↦ sym w.between.ensures ∙ sym w.value-is ∙ c.if-between.true | else-t-le-NAME_LIMIT w ↦ true_false (sym c.if-between.true ∙ w.value-is ∙ lt-leb _ name_limit w.if-t-le-NAME_LIMIT.false) ] in
+    let rest : take (length t - 1) (drop 1 t) ≡ drop 1 t = take_all (length t - 1) (drop 1 t) (omega (arith, length-drop 1 t)) in
+    rw (legal_rest t c.in-len1-up.len_at_least few first)
+    (all_told name_byte (drop 1 t) _ (cases_from_all _ _ _ (λ b. name_byte b ≡ true) (λ b. name_byte b ≡ false) c.all.ensures.ran
+    (YieldsList-from_slice (drop 1 t) (c.iter.ensures.rest ∙ rest)) (λ x q k. search (rules, tests)) (λ x q k. search (rules, tests))))
 
-pub returns-then-not-between : goal.returns-then-not-between
-returns-then-not-between c =
-    sym (legal_first _ (sym c.between.ensures ∙ c.if-not-between.true))
-
-pub loop-i-init : goal.loop-i-init
-loop-i-init c = (search rules, refl, legal_rest _ (omega arith) (omega arith) (sym c.between.ensures ∙ c.if-not-between.false))
-
-pub returns-then-not-name_byte : goal.returns-then-not-name_byte
-returns-then-not-name_byte c =
-    sym (c.loop-i.invariant.2 ∙ all_stop name_byte _ c.loop-i.i 0 (omega arith) (sym c.name_byte.ensures ∙ c.if-not-name_byte.true))
-
-pub loop-i-preserved : goal.loop-i-preserved
-loop-i-preserved c =
-    (omega arith, c.loop-i.invariant.1, c.loop-i.invariant.2 ∙ all_next name_byte _ c.loop-i.i 0 (omega arith) (sym c.name_byte.ensures ∙ c.if-not-name_byte.false))
-
-pub returns : goal.returns
-returns c = sym (c.loop-i.invariant.2 ∙ all_end name_byte _ c.loop-i.i (omega arith))
+pub returns-else-between : goal.returns-else-between
+returns-else-between c =
+    let t = c.args.t.now in
+    c.if-between.false ∙ elim c.if-t-le-NAME_LIMIT.branch [
+      | then-t-le-NAME_LIMIT w ↦ sym (legal_first t (sym w.between.ensures ∙ sym w.value-is ∙ c.if-between.false))
+      | else-t-le-NAME_LIMIT w ↦ sym (legal_long t w.if-t-le-NAME_LIMIT.false)
+    ]

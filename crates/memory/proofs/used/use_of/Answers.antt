@@ -1,8 +1,6 @@
-use mathlib.Core.Path.{◌≡◌, ap, ◌∙◌}
+use mathlib.Core.Path.{ap, ◌∙◌}
 use native.Mathlib.Omega.{arith}
-use borrow.Author.Rules.{rules}
-use lib.ListN.{length, length-take}
-use Rattle.model.specs.Limits.{max_systems}
+use lib.ListN.{length-take}
 use Rattle.model.specs.Lists.{search as seek}
 use Rattle.model.specs.Use.{looked_at}
 use Rattle.model.specs.Stored.{memory_of}
@@ -13,20 +11,8 @@ use Rattle.chains.proofs.Same.{links_looked}
 use Rattle.memory.proofs.Seeking.{use_sought}
 use Rattle.memory.proofs.used.use_of.Goals as goal
 
-pub slice_bounds-preds-end : goal.slice_bounds-preds-end
-slice_bounds-preds-end c =
-    let links = c.links_of-links in
-    let h : length links.result.preds ≡ max_systems = search rules in
-    omega (arith, links.ensures.few)
-
-pub slice_bounds-in_use-end : goal.slice_bounds-in_use-end
-slice_bounds-in_use-end c =
-    let links = c.links_of-links in
-    let h : length links.result.preds ≡ max_systems = search rules in
-    simp length-take (omega (arith, links.ensures.few))
-
 pub in_use-requires : goal.in_use-requires
-in_use-requires c = simp length-take (omega (arith, c.links_of-links.ensures.few))
+in_use-requires c = rw c.flat.ensures (simp length-take (omega (arith, c.links_of-links.ensures.few)))
 
 pub returns : goal.returns
 returns c =
@@ -35,6 +21,6 @@ returns c =
     let found = c.found_named in
     let m = memory_of c.args.m in
     c.in_use.ensures
-    ∙ ap (seek (meets sought.result)) (links_looked m.systems _ links.ensures.links m.enabled)
+    ∙ ap (seek (meets sought.result)) (links_looked m.systems _ (c.flat.ensures ∙ links.ensures.links) m.enabled)
     ∙ ap (λ (x : Sought). seek (meets x) (looked_at m)) sought.ensures
-    ∙ use_sought m (fine_of m c.requires.formed) c.args.name.now found.result found.ensures.0 found.ensures.1
+    ∙ use_sought m (fine_of m c.requires.formed) c.args.name.now found.result found.ensures.told found.ensures.real

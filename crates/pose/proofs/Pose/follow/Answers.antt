@@ -11,6 +11,6 @@ returns c =
 
 pub sum-at-requires : goal.sum-at-requires
 sum-at-requires c = record {
-  within = c.requires.within;
-  within_2 = subst (Within reach) (sym c.turn-turned.ensures) (within_turned reach c.args.self.rot c.args.own.at c.requires.within_2);
+  p_near = c.requires.self_near;
+  q_near = subst (Within reach) (sym c.turn-turned.ensures) (within_turned reach c.args.self.rot c.args.own.at c.requires.own_near);
 }

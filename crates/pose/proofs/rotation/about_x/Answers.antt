@@ -28,4 +28,4 @@ unfolding times
 returns-in_default c =
     let p = c.args in
     let s = p.s in
-    (λ i. record { a = s.a; b = s.c; c = c.flipped-in_default.ensures i }) ∙ after_left quarter_x refl s p.quarters 3 (omega (arith, c.in_default.in_default-own.rest))
+    (λ i. record { a = s.a; b = s.c; c = c.flipped-in_default.ensures i }) ∙ after_left quarter_x refl s p.quarters 3 (omega (arith))

@@ -28,4 +28,4 @@ unfolding times
 returns-in_default c =
     let p = c.args in
     let s = p.s in
-    (λ i. record { a = c.flipped-in_default.ensures i; b = s.b; c = s.a }) ∙ after_left quarter_y refl s p.quarters 3 (omega (arith, c.in_default.in_default-own.rest))
+    (λ i. record { a = c.flipped-in_default.ensures i; b = s.b; c = s.a }) ∙ after_left quarter_y refl s p.quarters 3 (omega (arith))

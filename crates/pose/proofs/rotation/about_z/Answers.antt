@@ -19,4 +19,4 @@ returns-in-2 c = sym (times_left quarter_z refl c.args.quarters 2 c.in-2.is)
 
 pub returns-in_default : goal.returns-in_default
 unfolding times
-returns-in_default c = sym (times_left quarter_z refl c.args.quarters 3 (omega (arith, c.in_default.in_default-own.rest)))
+returns-in_default c = sym (times_left quarter_z refl c.args.quarters 3 (omega (arith)))

@@ -53,16 +53,16 @@ first_is c =
     let j = c.number-j.ensures.0 in
     c.first_named-first.ensures ∙ (λ k. first_named (i k * 6 + j k))
 
-pub returns-then-first-k : goal.returns-then-first-k
-returns-then-first-k c =
+pub returns-then-first-from : goal.returns-then-first-from
+returns-then-first-from c =
     let r = c.args.r in
-    let k = c.number-k.ensures.0 in
-    let d : (first_named (first_axes r) / 64 ≡ axis_number r.c → ⊥) = λ e. c.if-first-k.true (ap (λ (n : ℕ). n / 64) (first_is (goal.at.returns-then-first-k c).After-first_named-first) ∙ e ∙ sym k) in
+    let k = c.from.ensures ∙ c.number-k.ensures.0 in
+    let d : (first_named (first_axes r) / 64 ≡ axis_number r.c → ⊥) = λ e. c.if-first-from.true (ap (λ (n : ℕ). n / 64) (first_is (goal.at.returns-then-first-from c).After-first_named-first) ∙ e ∙ sym k) in
     c.triple_at.ensures ∙ (rw (ne_eqb _ _ d) at (by_axes_lem r))
 
 pub returns : goal.returns
 returns c =
     let r = c.args.r in
-    let k = c.number-k.ensures.0 in
-    let e : first_named (first_axes r) / 64 ≡ axis_number r.c = ap (λ (n : ℕ). n / 64) (sym (first_is (goal.at.returns c).After-first_named-first)) ∙ c.if-first-k.false ∙ k in
+    let k = c.from.ensures ∙ c.number-k.ensures.0 in
+    let e : first_named (first_axes r) / 64 ≡ axis_number r.c = ap (λ (n : ℕ). n / 64) (sym (first_is (goal.at.returns c).After-first_named-first)) ∙ c.if-first-from.false ∙ k in
     c.triple_at-2.ensures ∙ ap (λ (n : ℕ). triple (n % 64)) (first_is (goal.at.returns c).After-first_named-first) ∙ (rw (eq-eqb _ _ e) at (by_axes_lem r))

@@ -1,5 +1,5 @@
-use Rattle.print.proofs.Laws.{wrote_part}
+use Rattle.print.proofs.Laws.{wrote_then, wrote_part}
 use Rattle.reply.proofs.enabled.put_next.Goals as goal
 
 pub returns : goal.returns
-returns c = wrote_part c.args.reply.now c.args.at c.requires.1 c.put_further_enabled-n.ensures
+returns c = wrote_part _ _ c.requires.1 (wrote_then c.put_text-a.ensures c.put_enabled.ensures)

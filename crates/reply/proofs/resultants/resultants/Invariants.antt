@@ -1,4 +1,3 @@
-use Prim.Native.Nat.{◌-◌}
 use Rattle.model.specs.Reply.{resultant_line}
 use Rattle.chains.specs.Frames.{framed}
 use Rattle.reply.proofs.KeptLaws.{Kept}
@@ -9,7 +8,4 @@ use Rattle.reply.proofs.resultants.resultants.Given as goal
 -- the lines of the systems passed are written, and what is reached from each of them is kept
 abbrev pub invariant-loop-i : goal.invariant-loop-i
 invariant-loop-i l =
-    Going (line_at resultant_line l.m) l.count l.initial.reply l.initial.at l.reply l.at l.i × Kept (framed l.xs l.ts l.ps) l.known l.i
-
-abbrev pub decreases-loop-i : goal.decreases-loop-i
-decreases-loop-i l = l.count - l.i
+    Going (line_at resultant_line l.fn.m) l.fn.m.count l.initial.reply l.initial.at l.reply l.at l.i × Kept (framed l.xs l.ts l.ps) l.known l.i

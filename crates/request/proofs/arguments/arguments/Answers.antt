@@ -1,12 +1,7 @@
-use mathlib.Core.Path.{refl}
 use Rattle.model.specs.Request.{fixed_words}
-use Rattle.request.specs.declared.Asked.TheVariants.{Unknown}
 use Rattle.request.proofs.Laws.{no_words}
-use Rattle.request.proofs.Says.{says_as, says_plain}
+use Rattle.request.proofs.Says.{says_as}
 use Rattle.request.proofs.arguments.arguments.Goals as goal
-
-pub returns-in-NoCommand : goal.returns-in-NoCommand
-returns-in-NoCommand c = rw c.in-NoCommand.is (says_plain Unknown c.plain.ensures refl)
 
 pub returns-in-Definition : goal.returns-in-Definition
 returns-in-Definition c = rw c.in-Definition.is c.defining.ensures

@@ -8,9 +8,8 @@ use Rattle.model.specs.Lists.{same}
 use Rattle.model.specs.Request.{Reading, malformed, asks_change, set_level, level_words}
 use Rattle.text.specs.Cursor.{word_of, words_from}
 use Rattle.text.proofs.WordLaws.{word_within}
-use Rattle.request.specs.declared.Asked.TheVariants.{Malformed}
 use Rattle.request.proofs.Laws.{level_none, level_zero, level_one, level_other}
-use Rattle.request.proofs.Says.{says_as, says_plain}
+use Rattle.request.proofs.Says.{says_as, says_malformed}
 use Rattle.request.proofs.Words.{at_word, either_way, same_long}
 use Rattle.text.specs.declared.words.Word.{Word}
 use Rattle.text.specs.Cursor.{next_word}
@@ -53,5 +52,4 @@ pub returns : goal.returns
 returns c =
     let v = word_of c.args.line.now c.next_word-w.result in
     let z : same v (ascii "0") ≡ false = sym c.is_word.ensures ∙ c.if-is_word.false in
-    says_plain Malformed c.plain.ensures
-    (sym (either_way _ _ _ c.next_word-w.ensures level_words malformed level_none (level_other v z (sym c.is_word-2.ensures ∙ c.if-is_word-2.false))))
+    says_malformed (either_way _ _ _ c.next_word-w.ensures level_words malformed level_none (level_other v z (sym c.is_word-2.ensures ∙ c.if-is_word-2.false)))

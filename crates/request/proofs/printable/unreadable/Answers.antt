@@ -1,9 +1,8 @@
 use Prim.Native.Nat.{ℕ, suc, ◌+◌, ◌≤◌, ◌<◌}
-use mathlib.Core.Path.{◌≡◌, refl, sym, ◌∙◌}
+use mathlib.Core.Path.{◌≡◌, sym, ◌∙◌}
 use mathlib.Core.List.{List}
 use mathlib.Core.Bool.{Bool, ◌&&◌}
 use native.Mathlib.Numerals.{add-one}
-use native.Mathlib.Omega.{arith}
 use borrow.Author.Tests.{lt-ltb, le-ltb}
 use lib.ListN.{length, drop, get_or, drop_of_length-le}
 use lib.Seq.{drop-cons}
@@ -30,19 +29,10 @@ pub returns-then-line-gt-LINE_LIMIT : goal.returns-then-line-gt-LINE_LIMIT
 unfolding unreadable
 returns-then-line-gt-LINE_LIMIT c = rw (lt-ltb _ _ c.if-line-gt-LINE_LIMIT.true)
 
-pub loop-i-init : goal.loop-i-init
-loop-i-init c = (omega arith, c.if-line-gt-LINE_LIMIT.false, refl)
-
-pub loop-i-preserved : goal.loop-i-preserved
-loop-i-preserved c =
-    let v = c.loop-i.invariant in
-    let l = c.args.line.now in
-    let h = c.loop-i-test.true in
-    (omega arith, v.1, v.2 ∙ turn fine l c.loop-i.i c.loop-i.fine h)
+pub loop-b-preserved : goal.loop-b-preserved
+loop-b-preserved c = c.loop-b.invariant ∙ turn fine c.args.line.now c.loop-b.b-index c.loop-b.fine c.loop-b-test.true
 
 pub returns : goal.returns
 unfolding unreadable
 returns c =
-    let v = c.loop-i.invariant in
-    let l = c.args.line.now in
-    rw (le-ltb _ _ v.1, v.2 ∙ end fine l c.loop-i.i c.loop-i.fine c.loop-i-test.false)
+    rw (le-ltb _ _ c.if-line-gt-LINE_LIMIT.false, c.loop-b.invariant ∙ end fine c.args.line.now c.loop-b.b-index c.loop-b.fine c.loop-b-test.false)

@@ -12,13 +12,10 @@ ends : (c : After-line_end-end) → c.line_end-end.result ≤ length c.args.bloc
 ends c = end_inside c.args.block.now 0 c.line_end-end.result (omega arith) c.line_end-end.ensures
 
 held_few : (c : After-line_end-end) → length (take c.args.s.held c.args.held.now) ≤ suc longest_line
-held_few c = omega (arith, length-take c.args.s.held c.args.held.now, c.requires.roomy.line, c.requires.held_in_bounds.1)
+held_few c = omega (arith, length-take c.args.s.held c.args.held.now, c.requires.line_long, c.requires.held_in_bounds.1)
 
 line_long : (c : After-join-n) → length c.join-n.new.line ≡ suc longest_line
-line_long c = let e : length c.join-n.new.line ≡ length c.args.line.now = search rules in e ∙ c.requires.roomy.line
-
-pub returns-then-count-eq0 : goal.returns-then-count-eq0
-returns-then-count-eq0 c = rw c.if-count-eq0.true c.whole_lines.ensures
+line_long c = let e : length c.join-n.new.line ≡ length c.args.line.now = search rules in e ∙ c.requires.line_long
 
 pub slice_bounds-join-end-2 : goal.slice_bounds-join-end-2
 slice_bounds-join-end-2 c = sym (length-take-le _ c.args.block.now (ends (goal.at.slice_bounds-join-end-2 c).After-line_end-end))
@@ -27,7 +24,7 @@ pub returns-then-end-block : goal.returns-then-end-block
 returns-then-end-block c =
     let a = c.args in
     held_on (place_of a.s) (take a.s.held a.held.now) a.block.now (held_few (goal.at.returns-then-end-block c).After-line_end-end) c.line_end-end.result c.line_end-end.ensures c.join-n.new.line
-    c.join-n.result (line_long (goal.at.returns-then-end-block c).After-join-n) c.join-n.ensures a.s.state a.s.line refl a.out.now c.if-end-block.true
+    c.join-n.result (line_long (goal.at.returns-then-end-block c).After-join-n) c.join-n.ensures a.s.state a.s.line refl a.rooms.now.out.now c.if-end-block.true
 
 pub overflow_add-result : goal.overflow_add-result
 overflow_add-result c =
@@ -40,4 +37,4 @@ returns c =
     let a = c.args in
     let inside : c.line_end-end.result < length a.block.now = omega (arith, ends (goal.at.returns c).After-line_end-end, c.if-end-block.false) in
     held_ends (place_of a.s) (take a.s.held a.held.now) a.block.now (held_few (goal.at.returns c).After-line_end-end) c.line_end-end.result c.line_end-end.ensures c.join-n.new.line c.join-n.result
-    (line_long (goal.at.returns c).After-join-n) c.join-n.ensures a.out.now _ c.obey-o.result _ c.wrapping_add_u64.ensures.value c.obey-o.ensures inside
+    (line_long (goal.at.returns c).After-join-n) c.join-n.ensures a.rooms.now.out.now _ c.obey-o.result _ refl c.obey-o.ensures inside

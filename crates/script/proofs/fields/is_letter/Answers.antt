@@ -1,10 +1,15 @@
-use Rattle.std.proofs.Common.{[], ◌∷◌, sym}
-use Rattle.text.proofs.Lists as lists
-use Rattle.script.proofs.FieldLaws.{same_one}
+use Rattle.std.proofs.Common.{sym, arith}
+use Rattle.script.proofs.FieldLaws.{one_letter, no_letter}
 use Rattle.script.proofs.fields.is_letter.Goals as goal
 
-pub returns-then-word-ne1 : goal.returns-then-word-ne1
-returns-then-word-ne1 c = let a = c.args in sym (lists.same_length a.word.now (a.letter ∷ []) c.if-word-ne1.true)
+pub returns-in-len1 : goal.returns-in-len1
+returns-in-len1 c = sym (one_letter c.args.word.now c.args.letter (omega arith) (omega arith))
 
-pub returns : goal.returns
-returns c = let a = c.args in sym (same_one a.word.now a.letter c.if-word-ne1.false)
+pub returns-in_default : goal.returns-in_default
+returns-in_default c = sym (no_letter c.args.word.now c.args.letter (λ h e. omega arith))
+
+pub returns-in_default-2 : goal.returns-in_default-2
+returns-in_default-2 c = sym (no_letter c.args.word.now c.args.letter (λ h e. omega arith))
+
+pub returns-in_default-3 : goal.returns-in_default-3
+returns-in_default-3 c = sym (no_letter c.args.word.now c.args.letter (λ h e. omega arith))

@@ -1,39 +1,43 @@
-use Rattle.std.proofs.Common.{◌≡◌, ◌<◌, take, sym, refl, arith, length-take-le, take_all, rules}
-use Rattle.script.proofs.AnswerLaws.{said_short}
-use Rattle.script.proofs.obey.say.Goals.{Start}
+use Rattle.std.proofs.Common.{◌≡◌, ℕ, ◌≤◌, length, take, min, refl, ap, ◌∙◌, arith, length-take-le}
+use Rattle.std.proofs.lemmas.List.{take_min}
+use Rattle.engine.specs.Answers.{written_by}
+use Rattle.script.proofs.AnswerLaws.{said_short, written_is}
+use Rattle.script.proofs.obey.say.Goals.{After-min-count}
 use Rattle.script.proofs.obey.say.Goals as goal
 
-number_byte : (c : Start) → c.args.r.number < 256
-number_byte c = search rules
+-- what is shown is what the call wrote, as far as the buffer goes
+shown : (c : After-min-count) → take c.min-count.result c.args.reply.now ≡ take (written_by c.args.r.outcome) c.args.reply.now
+shown c =
+    let reply = c.args.reply.now in
+    let count : c.min-count.result ≡ min (written_by c.args.r.outcome) (length reply) =
+    c.min-count.ensures ∙ ap (λ (n : ℕ). min n (length reply)) (c.unwrap_or.ensures ∙ written_is c.args.r.outcome) in
+    ap (λ (n : ℕ). take n reply) count ∙ take_min (written_by c.args.r.outcome) reply
 
-pub slice_bounds-put_said-end : goal.slice_bounds-put_said-end
-slice_bounds-put_said-end c = sym (length-take-le _ _ (search rules))
+few : (c : After-min-count) → length (take c.min-count.result c.args.reply.now) ≤ length c.args.reply.now
+few c =
+    let h : c.min-count.result ≤ length c.args.reply.now = omega (arith, c.min-count.ensures) in
+    omega (arith, length-take-le c.min-count.result c.args.reply.now h)
 
 pub put_said-end-requires : goal.put_said-end-requires
 put_said-end-requires c =
-    let r = c.args.r in
-    let reply = c.args.reply.now in
-    let e = length-take-le r.length reply (search rules) in
-    omega (arith, said_short r.number (take r.length reply) (number_byte (goal.at.put_said-end-requires c).Start), e, c.requires)
-
-pub returns-then-n-reply : goal.returns-then-n-reply
-returns-then-n-reply c =
-    let r = c.args.r in
-    let reply = c.args.reply.now in
-    let e = length-take-le r.length reply (search rules) in
-    record {
-      state = refl;
-      text = c.put_said-end.ensures;
-      inside = omega (arith, said_short r.number (take r.length reply) (number_byte (goal.at.returns-then-n-reply c).Start), e, c.requires, c.put_said-end.ensures.place);
-    }
-
-pub put_said-end-requires-2 : goal.put_said-end-requires-2
-put_said-end-requires-2 c =
-    omega (arith, said_short c.args.r.number c.args.reply.now (number_byte (goal.at.put_said-end-requires-2 c).Start), c.requires)
+    omega (
+      arith,
+      said_short c.number_told-number.result (take c.min-count.result c.args.reply.now) (omega arith),
+      few (goal.at.put_said-end-requires c).After-min-count,
+      c.requires,
+    )
 
 pub returns : goal.returns
 returns c =
-    let r = c.args.r in
-    let reply = c.args.reply.now in
-    let e : take r.length reply ≡ reply = take_all r.length reply c.if-n-reply.false in
-    record { state = refl; text = rw e c.put_said-end-2.ensures; inside = omega (arith, said_short r.number reply (number_byte (goal.at.returns c).Start), c.requires, c.put_said-end-2.ensures.place) }
+    record {
+      state = refl;
+      text = rw (← shown (goal.at.returns c).After-min-count, ← c.number_told-number.ensures) c.put_said-end.ensures;
+      inside =
+          omega (
+            arith,
+            said_short c.number_told-number.result (take c.min-count.result c.args.reply.now) (omega arith),
+            few (goal.at.returns c).After-min-count,
+            c.requires,
+            c.put_said-end.ensures.place,
+          );
+    }

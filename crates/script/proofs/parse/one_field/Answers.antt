@@ -1,22 +1,19 @@
-use Rattle.std.proofs.Common.{◌≡◌, false, [], ◌∷◌, sym, refl, ◌∙◌}
-use Rattle.model.specs.Lists.{same}
-use Rattle.print.specs.Over.{over}
-use Rattle.script.specs.Hex.{pairs_read}
-use Rattle.script.specs.Directive.{one_field}
-use Rattle.script.proofs.parse.one_field.Goals.{Else-is_letter}
+use Rattle.std.proofs.Common.{arith}
+use Rattle.script.proofs.FieldLaws.{a_letter}
+use Rattle.script.proofs.OrderLaws.{one_restart, one_factory, one_other}
 use Rattle.script.proofs.parse.one_field.Goals as goal
 
-pub returns-then-is_letter : goal.returns-then-is_letter
-unfolding one_field pairs_read over
-returns-then-is_letter c = λ b. record { order = rw (sym c.is_letter.ensures ∙ c.if-is_letter.true); bytes = refl; bounded = tt }
+pub returns-in-R : goal.returns-in-R
+returns-in-R c = λ b. rw (a_letter c.args.w.now 82 (omega arith) (omega arith)) (one_restart b)
 
-no_restart : (c : Else-is_letter) → same c.args.w.now (82 ∷ []) ≡ false
-no_restart c = sym c.is_letter.ensures ∙ c.if-is_letter.false
+pub returns-in-N : goal.returns-in-N
+returns-in-N c = λ b. rw (a_letter c.args.w.now 78 (omega arith) (omega arith)) (one_factory b)
 
-pub returns-then-is_letter-2 : goal.returns-then-is_letter-2
-unfolding one_field pairs_read over
-returns-then-is_letter-2 c = λ b. record { order = rw (no_restart (goal.at.returns-then-is_letter-2 c).Else-is_letter, sym c.is_letter-2.ensures ∙ c.if-is_letter-2.true); bytes = refl; bounded = tt }
+pub returns-in_default : goal.returns-in_default
+returns-in_default c = let w = c.args.w.now in λ b. one_other b w (λ h e. omega arith) (λ h e. omega arith)
 
-pub returns : goal.returns
-unfolding one_field pairs_read over
-returns c = λ b. record { order = rw (no_restart (goal.at.returns c).Else-is_letter, sym c.is_letter-2.ensures ∙ c.if-is_letter-2.false); bytes = refl; bounded = tt }
+pub returns-in_default-2 : goal.returns-in_default-2
+returns-in_default-2 c = let w = c.args.w.now in λ b. one_other b w (λ h e. omega arith) (λ h e. omega arith)
+
+pub returns-in_default-3 : goal.returns-in_default-3
+returns-in_default-3 c = let w = c.args.w.now in λ b. one_other b w (λ h e. omega arith) (λ h e. omega arith)

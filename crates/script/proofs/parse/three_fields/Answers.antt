@@ -1,25 +1,26 @@
-use Rattle.std.proofs.Common.{◌≡◌, true, [], ◌∷◌, sym, ◌∙◌}
-use borrow.Author.Tests.{not-true, not-false}
-use Rattle.model.specs.Lists.{same}
-use Rattle.script.proofs.OrderLaws.{three_other, three_wrong, three_line}
-use Rattle.script.proofs.parse.three_fields.Goals.{Else-not-is_letter}
+use Rattle.std.proofs.Common.{arith}
+use Rattle.script.proofs.FieldLaws.{a_letter}
+use Rattle.script.proofs.OrderLaws.{three_line, three_no_bytes, three_no_length, three_other}
 use Rattle.script.proofs.parse.three_fields.Goals as goal
 
-pub returns-then-not-is_letter : goal.returns-then-not-is_letter
-returns-then-not-is_letter c = three_other _ _ _ _ (sym c.is_letter.ensures ∙ c.if-not-is_letter.true)
+pub returns-in_err-count : goal.returns-in_err-count
+returns-in_err-count c =
+    rw (c.from_residual.ensures, a_letter c.args.w.now 76 (omega arith) (omega arith)) (three_no_bytes c.args.h.now c.args.v.now c.in_err-count.ensures)
 
-is_line : (c : Else-not-is_letter) → same c.args.w.now (76 ∷ []) ≡ true
-is_line c = sym c.is_letter.ensures ∙ c.if-not-is_letter.false
+pub returns-in_err-length : goal.returns-in_err-length
+returns-in_err-length c =
+    rw (c.from_residual-in_err-length.ensures, a_letter c.args.w.now 76 (omega arith) (omega arith))
+    (three_no_length c.args.h.now c.args.v.now c.in_ok-count.ensures c.in_err-length.ensures)
 
-pub returns-then-not-line : goal.returns-then-not-line
-returns-then-not-line c = three_wrong _ _ _ (is_line (goal.at.returns-then-not-line c).Else-not-is_letter) c.read_bytes-line.ensures (not-true _ c.if-not-line.true)
+pub returns : goal.returns
+returns c =
+    rw (a_letter c.args.w.now 76 (omega arith) (omega arith)) (three_line c.args.h.now c.args.v.now c.in_ok-count.ensures c.in_ok-length.ensures)
 
-pub returns-in-Value : goal.returns-in-Value
-returns-in-Value c =
-    rw c.in-Value.is
-    at (three_line _ _ _ (is_line (goal.at.returns-in-Value c).Else-not-is_letter) c.read_bytes-line.ensures c.read_length.result (not-false _ c.if-not-line.false) c.read_length.ensures)
+pub returns-in_default : goal.returns-in_default
+returns-in_default c = three_other c.args.h.now c.args.v.now c.args.w.now _ (λ h e. omega arith)
 
-pub returns-in-Wrong : goal.returns-in-Wrong
-returns-in-Wrong c =
-    rw c.in-Wrong.is
-    at (three_line _ _ _ (is_line (goal.at.returns-in-Wrong c).Else-not-is_letter) c.read_bytes-line.ensures c.read_length.result (not-false _ c.if-not-line.false) c.read_length.ensures)
+pub returns-in_default-2 : goal.returns-in_default-2
+returns-in_default-2 c = three_other c.args.h.now c.args.v.now c.args.w.now _ (λ h e. omega arith)
+
+pub returns-in_default-3 : goal.returns-in_default-3
+returns-in_default-3 c = three_other c.args.h.now c.args.v.now c.args.w.now _ (λ h e. omega arith)

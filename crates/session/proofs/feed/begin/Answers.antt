@@ -1,9 +1,7 @@
 -- `begin`: the factory state, nothing counted, and nothing held.
 use mathlib.Core.Path.{refl}
-use native.Mathlib.Omega.{arith}
 use Rattle.model.specs.Machine.{start_factory}
 use Rattle.model.proofs.Histories.Kept.{well_formed_kept}
-use Rattle.model.proofs.Histories.Tally.{same_sums, empty_sums}
 use Rattle.model.proofs.Views.{view_is}
 use Rattle.session.proofs.feed.begin.Goals as goal
 
@@ -14,5 +12,5 @@ returns c =
     record {
       held = rw (b.0, b.2, v.1) refl;
       tally = b.1;
-      between = record { fine = record { shape = rw b.0 v.0; formed = rw (b.0, v.1) well_formed_kept.factory }; sums = same_sums b.1 empty_sums; few = omega (arith, b.2) };
+      fine = record { shape = rw b.0 v.0; formed = rw (b.0, v.1) well_formed_kept.factory };
     }

@@ -7,22 +7,19 @@ use Rattle.session.proofs.Running.{run_whole, run_stop, keeps_rest}
 use Rattle.session.proofs.feed.whole_lines.Goals as goal
 
 pub line_end-end-requires : goal.line_end-end-requires
-line_end-end-requires c = c.run_lines-r.ensures.run.within
-
-pub keep-held-requires : goal.keep-held-requires
-keep-held-requires c = omega (arith, c.nothing_held.ensures)
+line_end-end-requires c = c.run_lines-fed.ensures.run.within
 
 pub returns-then-end-block : goal.returns-then-end-block
 returns-then-end-block c =
-    let ran = c.run_lines-r in
+    let fed = c.run_lines-fed in
     let block = c.args.block.now in
-    let at = ran.result.used in
-    run_whole c.args.k c.args.s c.args.t block c.args.out.now _ ran.result ran.ensures _ c.line_end-end.ensures c.if-end-block.true c.keep-held.result
-    (keeps_rest c.nothing_held.result c.keep-held.result (drop at block) (length block - at) c.nothing_held.ensures (rw (length-drop at block) (omega arith)) c.keep-held.ensures)
+    let at = fed.result.used in
+    run_whole c.args.k c.args.s block c.args.out.now _ fed.result fed.ensures c.requires.nothing_held _ c.line_end-end.ensures c.if-end-block.true c.keep-held.result
+    (keeps_rest c.args.s.held c.keep-held.result (drop at block) (length block - at) c.requires.nothing_held (rw (length-drop at block) (omega arith)) c.keep-held.ensures)
 
 pub returns : goal.returns
 returns c =
-    let ran = c.run_lines-r in
+    let fed = c.run_lines-fed in
     let end = c.line_end-end in
-    run_stop c.args.k c.args.s c.args.t c.args.block.now c.args.out.now _ ran.result ran.ensures _ end.ensures
-    (omega (arith, end_inside _ _ _ ran.ensures.run.within end.ensures, c.if-end-block.false)) c.requires.buffer_limit_in_bounds c.nothing_held-held.result c.nothing_held-held.ensures
+    run_stop c.args.k c.args.s c.args.block.now c.args.out.now _ fed.result fed.ensures c.requires.nothing_held _ end.ensures
+    (omega (arith, end_inside _ _ _ fed.ensures.run.within end.ensures, c.if-end-block.false)) c.requires.buffer_limit_in_bounds

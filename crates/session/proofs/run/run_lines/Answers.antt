@@ -1,5 +1,4 @@
 -- `run_lines`: a run over the block, line by line, the state open in its parts.
-use Rattle.model.specs.declared.State.{State as StoredState}
 use Prim.Native.Nat.{ℕ, ◌+◌, ◌-◌, ◌<◌, ◌≤◌, ◌^◌}
 use mathlib.Core.List.{List}
 use mathlib.Core.Path.{◌≡◌, refl, sym, ap, ◌∙◌}
@@ -9,35 +8,37 @@ use borrow.Author.Rules.{rules}
 use borrow.Author.Tests.{eqb-true, eqb-false}
 use lib.Dec.{eqb}
 use lib.ListN.{length, take, drop}
+use Rattle.std.specs.Prelude.{Result, Ok}
 use Rattle.model.specs.Stored.{state_of}
+use Rattle.model.specs.Tally.{counted}
 use Rattle.model.proofs.Basics.{or_split, or_false}
 use Rattle.model.proofs.Memories.Fine.{state_of_lem}
 use Rattle.model.proofs.Histories.Tally.{same_sums, counted_sums}
-use Rattle.commands.specs.Done.{Applied}
-use Rattle.commands.proofs.Deeds.{put_fits, remove_fits, applied_keep, applied_error, applied_put, applied_remove, applied_held, applied_enable, applied_level, applied_save, applied_restore, applied_reset}
+use Rattle.facts.specs.declared.refusals.Refusal.{Refusal}
+use Rattle.commands.specs.declared.changed.Deed.{Deed}
+use Rattle.commands.proofs.Deeds.{put_fits, remove_fits, applied_refused, applied_keep, applied_clear, applied_put, applied_remove, applied_enable, applied_level, applied_save, applied_restore, applied_reset}
+use Rattle.engine.specs.declared.answer.Step.{Step}
+use Rattle.engine.specs.Taken.{deed_of}
+use Rattle.engine.proofs.Views.{fine_volatile}
 use Rattle.tally.specs.Counts.{numbers, tally_of}
+use Rattle.tally.specs.Trimmed.{tally_with}
 use Rattle.lines.specs.Before.{before}
 use Rattle.lines.proofs.Laws.{end_inside}
-use Rattle.session.specs.Blocks.{Run}
-use Rattle.session.proofs.Rest.{with_rest}
 use Rattle.lines.proofs.Places.{rest_long}
+use Rattle.session.proofs.Rest.{with_rest}
 use Rattle.session.proofs.Running.{run_start, run_idle, not_due, some_due}
-use Rattle.engine.proofs.Views.{fine_volatile}
 use Rattle.session.proofs.Turning.{Turned, turned}
-use Rattle.session.proofs.run.run_lines.Invariants.{state_with, tally_on}
+use Rattle.session.proofs.run.run_lines.Invariants.{state_with}
 use Rattle.session.proofs.run.run_lines.Goals.{After-say-written, else-loop-out-test, then-loop-out-test+then-is_due-end}
 use Rattle.session.proofs.run.run_lines.Goals as goal
 
 pub loop-out-init : goal.loop-out-init
 loop-out-init c =
-    let places : length c.args.t.counts ≡ numbers = search rules in
-    (rw c.nothing_due-due.ensures (run_start c.args.k c.args.s c.args.t c.args.block.now c.args.out.now c.requires.fine_state), places)
-
-pub overflow_sub-out : goal.overflow_sub-out
-overflow_sub-out c = omega (arith, c.loop-out.invariant.0.room, c.loop-out.invariant.0.long)
-
-pub line_end-end-requires : goal.line_end-end-requires
-line_end-end-requires c = c.loop-out.invariant.0.within
+    let s = c.args.s in
+    let places : length s.tally.counts ≡ numbers = search rules in record {
+      run = rw c.nothing_due-due.ensures (run_start c.args.k s.state (tally_of s.tally) c.args.block.now c.args.out.now c.requires.fine_state);
+      places = places;
+    }
 
 -- ---- a line that ends in the block
 
@@ -48,60 +49,48 @@ inside block used end within e short = omega (arith, end_inside block used end w
 pub slice_bounds-line-end : goal.slice_bounds-line-end
 slice_bounds-line-end c =
     let e = c.line_end-end in
-    omega (arith, e.ensures, inside c.args.block.now c.loop-out.used e.result c.loop-out.invariant.0.within e.ensures (eqb-false _ _ (or_false c.is_due.result _ c.if-is_due-end.false).1))
+    omega (arith, e.ensures, inside c.args.block.now c.loop-out.used e.result c.loop-out.invariant.run.within e.ensures (eqb-false _ _ (or_false c.is_due.result _ c.if-is_due-end.false).1))
 
-pub decide-step-requires-clause-fine_memory : goal.decide-step-requires-clause-fine_memory
-decide-step-requires-clause-fine_memory c = fine_volatile _ c.loop-out.invariant.0.fine
+pub decide-decided-requires-clause-fine_memory : goal.decide-decided-requires-clause-fine_memory
+decide-decided-requires-clause-fine_memory c = fine_volatile _ c.loop-out.invariant.run.fine
 
-pub decide-step-requires-clause-p_value : goal.decide-step-requires-clause-p_value
-decide-step-requires-clause-p_value c = (state_of_lem _ c.loop-out.invariant.0.fine.formed).position
+pub decide-decided-requires-clause-p_fine : goal.decide-decided-requires-clause-p_fine
+decide-decided-requires-clause-p_fine c = (state_of_lem _ c.loop-out.invariant.run.fine.formed).position
 
 pub count_in-total-requires-clause-sums : goal.count_in-total-requires-clause-sums
-count_in-total-requires-clause-sums c = same_sums c.loop-out.invariant.0.tally (counted_sums _ _ c.requires.sums)
+count_in-total-requires-clause-sums c = same_sums c.loop-out.invariant.run.tally (counted_sums _ _ c.args.s.tally.sums)
 
 -- ---- its turn
 
--- what was decided is counted and said
+-- what was settled is counted and said
 said : (c : After-say-written) →
     let l = c.loop-out in
     let a = c.args in
-    let step = c.decide-step in
-    Turned a.k (state_of a.s) (tally_of a.t) a.block.now a.out.now
-    (with_rest (with_rest l.out l.written step.new.reply) l.written c.say-written.new.out)
-    (state_with l.volatile l.permanent a.s.position l.level l.error) (tally_on c.count_in-total.new.counts c.count_in-total.result) step.result.decision (c.line_end-end.result + 1) (l.written + c.say-written.result) c.due_of-due.result
+    Turned a.k (state_of a.s.state) (tally_of a.s.tally) a.block.now a.out.now
+    (with_rest (with_rest l.out l.written c.decide-decided.new.reply) l.written c.say-written.new.out)
+    (state_with l.volatile l.permanent a.s.state.position l.level l.error) (tally_with c.count_in-total.new.counts c.count_in-total.result) c.settled-done.result (c.line_end-end.result + 1) (l.written + c.say-written.result) c.due_of-due.result
 said c =
     let l = c.loop-out in
     let a = c.args in
-    let step = c.decide-step in
+    let decided = c.decide-decided in
     let end = c.line_end-end in
-    let s = state_with l.volatile l.permanent a.s.position l.level l.error in
+    let run = l.invariant.run in
+    let s = state_with l.volatile l.permanent a.s.state.position l.level l.error in
+    let t = tally_with l.counts l.total in
     let test = or_false c.is_due.result _ c.if-is_due-end.false in
-    let idle = run_idle (not_due l.due (sym c.is_due.ensures ∙ test.0)) l.invariant.0 in
+    let idle = run_idle (not_due l.due (sym c.is_due.ensures ∙ test.0)) run in
     let size : end.result - l.used ≡ before (drop l.used a.block.now) = omega (arith, end.ensures) in
-    turned a.k (state_of a.s) (tally_of a.t) a.block.now a.out.now l.out s (tally_on l.counts l.total) l.used l.written idle
-    end.result end.ensures (inside a.block.now l.used end.result l.invariant.0.within end.ensures (eqb-false _ _ test.1)) _ (ap (λ (k : ℕ). take k (drop l.used a.block.now)) size)
+    turned a.k (state_of a.s.state) (tally_of a.s.tally) a.block.now a.out.now l.out s t l.used l.written idle
+    end.result end.ensures (inside a.block.now l.used end.result run.within end.ensures (eqb-false _ _ test.1)) _ (ap (λ (k : ℕ). take k (drop l.used a.block.now)) size)
     (rw (rest_long l.out l.written) (omega (arith, c.loop-out-test.true)))
-    step.result _ (step.ensures s refl refl refl refl l.invariant.0.fine) step.auto.reply
-    _ c.settled-number.ensures
-    (tally_on c.count_in-total.new.counts c.count_in-total.result) c.count_in-total.ensures _ _ c.say-written.ensures c.say-written.auto.out _ c.due_of-due.ensures
+    decided.result _ (decided.ensures s refl refl refl refl run.fine) decided.auto.reply
+    c.settled-done.result c.settled-done.ensures
+    (tally_with c.count_in-total.new.counts c.count_in-total.result) (c.count_in-total.ensures ∙ ap (counted t) c.number_told.ensures)
+    _ _ c.say-written.ensures c.say-written.auto.out _ c.due_of-due.ensures
 
--- once it is done too, the run goes on
-went : {s : StoredState} (c : After-say-written) →
-    let l = c.loop-out in
-    let a = c.args in
-    let step = c.decide-step in
-    Applied (state_with l.volatile l.permanent a.s.position l.level l.error) step.result.decision s →
-    Run a.k (state_of a.s) (tally_of a.t) a.block.now a.out.now
-    (with_rest (with_rest l.out l.written step.new.reply) l.written c.say-written.new.out)
-    s (tally_on c.count_in-total.new.counts c.count_in-total.result) (c.line_end-end.result + 1) (l.written + c.say-written.result) c.due_of-due.result
-    × (length c.count_in-total.new.counts ≡ numbers)
-went c done = let stay : length c.count_in-total.new.counts ≡ numbers = search rules in ((said c).next done, stay)
-
--- less is left of the block
-less : (c : After-say-written) → length c.args.block.now - (c.line_end-end.result + 1) < length c.args.block.now - c.loop-out.used
-less c =
-    let e = c.line_end-end in
-    omega (arith, e.ensures, inside c.args.block.now c.loop-out.used e.result c.loop-out.invariant.0.within e.ensures (eqb-false _ _ (or_false c.is_due.result _ c.if-is_due-end.false).1))
+-- every number has its place still
+stay : (c : After-say-written) → length c.count_in-total.new.counts ≡ numbers
+stay c = search rules
 
 pub overflow_add-written : goal.overflow_add-written
 overflow_add-written c =
@@ -112,82 +101,71 @@ pub overflow_add-used : goal.overflow_add-used
 overflow_add-used c =
     let e = c.line_end-end in
     let long : length c.args.block.now < 2 ^ 64 = search rules in
-    record { fits = omega (arith, long, inside c.args.block.now c.loop-out.used e.result c.loop-out.invariant.0.within e.ensures (eqb-false _ _ (or_false c.is_due.result _ c.if-is_due-end.false).1)) }
+    record { fits = omega (arith, long, inside c.args.block.now c.loop-out.used e.result c.loop-out.invariant.run.within e.ensures (eqb-false _ _ (or_false c.is_due.result _ c.if-is_due-end.false).1)) }
 
 -- ---- what is done
 
-pub loop-out-smaller-in-Keep : goal.loop-out-smaller-in-Keep
-loop-out-smaller-in-Keep c = less (goal.at.loop-out-smaller-in-Keep c).After-say-written
-
-pub loop-out-preserved-in-Keep : goal.loop-out-preserved-in-Keep
-loop-out-preserved-in-Keep c = went (goal.at.loop-out-preserved-in-Keep c).After-say-written (applied_keep c.in-Keep.is)
-
-pub loop-out-smaller-in-SetError : goal.loop-out-smaller-in-SetError
-loop-out-smaller-in-SetError c = less (goal.at.loop-out-smaller-in-SetError c).After-say-written
-
-pub loop-out-preserved-in-SetError : goal.loop-out-preserved-in-SetError
-loop-out-preserved-in-SetError c = went (goal.at.loop-out-preserved-in-SetError c).After-say-written (applied_error c.in-SetError.is)
+-- the deed of an accepted line
+did : {r : Result Step Refusal} {step : Step} {d : Deed} → r ≡ Ok step → step.deed ≡ d → deed_of r ≡ Ok d
+did e f = ap deed_of e ∙ ap (λ (d : Deed). Ok d) f
 
 pub put_at-volatile-requires : goal.put_at-volatile-requires
-put_at-volatile-requires c = put_fits (said (goal.at.put_at-volatile-requires c).After-say-written).doable c.in-Put.is
-
-pub loop-out-smaller-in-Put : goal.loop-out-smaller-in-Put
-loop-out-smaller-in-Put c = less (goal.at.loop-out-smaller-in-Put c).After-say-written
-
-pub loop-out-preserved-in-Put : goal.loop-out-preserved-in-Put
-loop-out-preserved-in-Put c = went (goal.at.loop-out-preserved-in-Put c).After-say-written (applied_put c.in-Put.is (said (goal.at.loop-out-preserved-in-Put c).After-say-written).doable _ (c.put_at-volatile.ensures.result_value, c.put_at-volatile.ensures.result_value_2))
+put_at-volatile-requires c = let fits = put_fits (said (goal.at.put_at-volatile-requires c).After-say-written).doable (did c.in-Ok.is c.in-Put.is) in (fits.0, fits.1)
 
 pub removed_at-volatile-requires : goal.removed_at-volatile-requires
-removed_at-volatile-requires c = remove_fits (said (goal.at.removed_at-volatile-requires c).After-say-written).doable c.in-Remove.is
+removed_at-volatile-requires c = remove_fits (said (goal.at.removed_at-volatile-requires c).After-say-written).doable (did c.in-Ok.is c.in-Remove.is)
 
-pub loop-out-smaller-then-number-eq-ACCEPTED : goal.loop-out-smaller-then-number-eq-ACCEPTED
-loop-out-smaller-then-number-eq-ACCEPTED c = less (goal.at.loop-out-smaller-then-number-eq-ACCEPTED c).After-say-written
+pub loop-out-preserved-in-Err : goal.loop-out-preserved-in-Err
+loop-out-preserved-in-Err c =
+    let turn = (goal.at.loop-out-preserved-in-Err c).After-say-written in
+    record { run = (said turn).next (applied_refused (ap deed_of c.in-Err.is) c.from-error.ensures); places = stay turn }
 
-pub loop-out-preserved-then-number-eq-ACCEPTED : goal.loop-out-preserved-then-number-eq-ACCEPTED
-loop-out-preserved-then-number-eq-ACCEPTED c = went (goal.at.loop-out-preserved-then-number-eq-ACCEPTED c).After-say-written (applied_remove c.in-Remove.is c.settled-number.ensures c.if-number-eq-ACCEPTED.true _ (c.removed_at-volatile.ensures.result_value, c.removed_at-volatile.ensures.result_value_2))
+pub loop-out-preserved-in-Keep : goal.loop-out-preserved-in-Keep
+loop-out-preserved-in-Keep c =
+    let turn = (goal.at.loop-out-preserved-in-Keep c).After-say-written in record { run = (said turn).next (applied_keep (did c.in-Ok.is c.in-Keep.is)); places = stay turn }
 
-pub loop-out-smaller-else-number-eq-ACCEPTED : goal.loop-out-smaller-else-number-eq-ACCEPTED
-loop-out-smaller-else-number-eq-ACCEPTED c = less (goal.at.loop-out-smaller-else-number-eq-ACCEPTED c).After-say-written
+pub loop-out-preserved-in-ClearError : goal.loop-out-preserved-in-ClearError
+loop-out-preserved-in-ClearError c =
+    let turn = (goal.at.loop-out-preserved-in-ClearError c).After-say-written in record { run = (said turn).next (applied_clear (did c.in-Ok.is c.in-ClearError.is)); places = stay turn }
 
-pub loop-out-preserved-else-number-eq-ACCEPTED : goal.loop-out-preserved-else-number-eq-ACCEPTED
-loop-out-preserved-else-number-eq-ACCEPTED c = went (goal.at.loop-out-preserved-else-number-eq-ACCEPTED c).After-say-written (applied_held c.in-Remove.is c.settled-number.ensures c.if-number-eq-ACCEPTED.false)
+pub loop-out-preserved-in-Put : goal.loop-out-preserved-in-Put
+loop-out-preserved-in-Put c =
+    let turn = (goal.at.loop-out-preserved-in-Put c).After-say-written in record { run = (said turn).next (applied_put (did c.in-Ok.is c.in-Put.is) (said turn).doable _ (c.put_at-volatile.ensures.stands_for, c.put_at-volatile.ensures.shaped)); places = stay turn }
 
-pub loop-out-smaller-in-Enable : goal.loop-out-smaller-in-Enable
-loop-out-smaller-in-Enable c = less (goal.at.loop-out-smaller-in-Enable c).After-say-written
+pub loop-out-preserved-in-Remove : goal.loop-out-preserved-in-Remove
+loop-out-preserved-in-Remove c =
+    let turn = (goal.at.loop-out-preserved-in-Remove c).After-say-written in record { run = (said turn).next (applied_remove (did c.in-Ok.is c.in-Remove.is) _ (c.removed_at-volatile.ensures.stands_for, c.removed_at-volatile.ensures.shaped)); places = stay turn }
 
 pub loop-out-preserved-in-Enable : goal.loop-out-preserved-in-Enable
-loop-out-preserved-in-Enable c = went (goal.at.loop-out-preserved-in-Enable c).After-say-written (applied_enable c.in-Enable.is)
-
-pub loop-out-smaller-in-SetLevel : goal.loop-out-smaller-in-SetLevel
-loop-out-smaller-in-SetLevel c = less (goal.at.loop-out-smaller-in-SetLevel c).After-say-written
+loop-out-preserved-in-Enable c =
+    let turn = (goal.at.loop-out-preserved-in-Enable c).After-say-written in record { run = (said turn).next (applied_enable (did c.in-Ok.is c.in-Enable.is)); places = stay turn }
 
 pub loop-out-preserved-in-SetLevel : goal.loop-out-preserved-in-SetLevel
-loop-out-preserved-in-SetLevel c = went (goal.at.loop-out-preserved-in-SetLevel c).After-say-written (applied_level c.in-SetLevel.is)
-
-pub loop-out-smaller-in-Save : goal.loop-out-smaller-in-Save
-loop-out-smaller-in-Save c = less (goal.at.loop-out-smaller-in-Save c).After-say-written
+loop-out-preserved-in-SetLevel c =
+    let turn = (goal.at.loop-out-preserved-in-SetLevel c).After-say-written in record { run = (said turn).next (applied_level (did c.in-Ok.is c.in-SetLevel.is)); places = stay turn }
 
 pub loop-out-preserved-in-Save : goal.loop-out-preserved-in-Save
-loop-out-preserved-in-Save c = went (goal.at.loop-out-preserved-in-Save c).After-say-written (applied_save c.in-Save.is)
-
-pub loop-out-smaller-in-Restore : goal.loop-out-smaller-in-Restore
-loop-out-smaller-in-Restore c = less (goal.at.loop-out-smaller-in-Restore c).After-say-written
+loop-out-preserved-in-Save c =
+    let turn = (goal.at.loop-out-preserved-in-Save c).After-say-written in record { run = (said turn).next (applied_save (did c.in-Ok.is c.in-Save.is)); places = stay turn }
 
 pub loop-out-preserved-in-Restore : goal.loop-out-preserved-in-Restore
-loop-out-preserved-in-Restore c = went (goal.at.loop-out-preserved-in-Restore c).After-say-written (applied_restore c.in-Restore.is)
-
-pub loop-out-smaller : goal.loop-out-smaller
-loop-out-smaller c = less (goal.at.loop-out-smaller c).After-say-written
+loop-out-preserved-in-Restore c =
+    let turn = (goal.at.loop-out-preserved-in-Restore c).After-say-written in record { run = (said turn).next (applied_restore (did c.in-Ok.is c.in-Restore.is)); places = stay turn }
 
 pub loop-out-preserved : goal.loop-out-preserved
-loop-out-preserved c = went (goal.at.loop-out-preserved c).After-say-written (applied_reset c.in-Reset.is _ (c.factory_memory-volatile.ensures.result_value, c.factory_memory-volatile.ensures.result_value_2))
+loop-out-preserved c =
+    let turn = (goal.at.loop-out-preserved c).After-say-written in record { run = (said turn).next (applied_reset (did c.in-Ok.is c.in-Reset.is) _ (c.factory_memory-volatile.ensures.stands_for, c.factory_memory-volatile.ensures.shaped)); places = stay turn }
 
 -- ---- the end
 
+pub invariant_of-tally : goal.invariant_of-tally
+invariant_of-tally c = record { sums = same_sums c.loop-out.invariant.run.tally (counted_sums _ _ c.args.s.tally.sums) }
+
 pub returns : goal.returns
 returns c =
-    rw c.left_with.ensures (record {
-      run = c.loop-out.invariant.0;
+    record {
+      run = c.loop-out.invariant.run;
+      held = refl;
       stops = λ h. elim c.loop-out-test.branch [
         | else-loop-out-test w ↦ inl w.loop-out-test.false
         | then-loop-out-test+then-is_due-end w ↦ ⊎_elim
@@ -195,4 +173,4 @@ returns c =
             (λ e. absurd (omega (arith, h, w.line_end-end.ensures, eqb-true w.line_end-end.result _ e)))
             (or_split w.is_due.result (eqb w.line_end-end.result _) w.if-is_due-end.true)
       ];
-    })
+    }

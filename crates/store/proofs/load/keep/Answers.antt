@@ -5,4 +5,4 @@ use Rattle.store.proofs.load.keep.Goals as goal
 
 pub returns : goal.returns
 returns c =
-    kept (omega (arith, c.if-bytes-gt-LONGEST_IMAGE.false)) (omega (arith, c.if-bytes-gt-LONGEST_IMAGE.false, c.requires)) c.put_text-n.ensures
+    kept (omega (arith, c.if-bytes-gt-LONGEST_IMAGE.false)) (omega (arith, c.if-bytes-gt-LONGEST_IMAGE.false, c.requires)) c.put_text.ensures

@@ -1,44 +1,22 @@
 -- `read_mark`: a first number, a second one, and nothing behind it.
-use Prim.Native.Nat.{◌+◌, ◌<◌}
-use mathlib.Core.Path.{refl, ◌∙◌}
-use native.Mathlib.Omega.{arith}
-use Rattle.store.specs.Mark.{number_end}
-use Rattle.store.proofs.Ends.{mark_none, mark_half, mark_more, mark_both, mark_of_lem}
+use mathlib.Core.Path.{◌≡◌, sym, ◌∙◌}
+use borrow.Author.Rules.{rules}
+use Rattle.std.proofs.Common.{None}
+use Rattle.store.proofs.Ends.{no_first, no_second, more_behind, both_ends}
 use Rattle.store.proofs.mark.read_mark.Goals as goal
 
-pub returns-then-a-eq0 : goal.returns-then-a-eq0
-returns-then-a-eq0 c =
-    let text = c.args.text.now in
-    let a = c.number_end-a.result in
-    let b = number_end text (a + 1) 10 in record {
-      value = mark_none text a b c.if-a-eq0.true ∙ mark_of_lem text a b c.number_end-a.ensures.value refl;
-      marked = tt;
-    }
+pub returns-in_err-a-clause-value : goal.returns-in_err-a-clause-value
+returns-in_err-a-clause-value c = let none : c.from_residual.result ≡ None = search rules in none ∙ no_first c.args.text.now (sym c.in_err-a.was ∙ c.number_end.ensures.value)
 
-pub overflow_add-from : goal.overflow_add-from
-overflow_add-from c = omega (arith, c.number_end-a.ensures.ends_at (omega arith))
+pub returns-in_err-b-clause-value : goal.returns-in_err-b-clause-value
+returns-in_err-b-clause-value c =
+    let none : c.from_residual-in_err-b.result ≡ None = search rules in
+    none ∙ no_second c.args.text.now c.in_ok-a.a (sym c.in_ok-a.was ∙ c.number_end.ensures.value) (sym c.in_err-b.was ∙ c.number_end-2.ensures.value)
 
-pub number_end-b-requires : goal.number_end-b-requires
-number_end-b-requires c = omega (arith, c.number_end-a.ensures.ends_at (omega arith))
+pub returns-then-b-text-clause-value : goal.returns-then-b-text-clause-value
+returns-then-b-text-clause-value c =
+    both_ends c.args.text.now c.in_ok-a.a (sym c.in_ok-a.was ∙ c.number_end.ensures.value) c.in_ok-b.b (sym c.in_ok-b.was ∙ c.number_end-2.ensures.value) c.if-b-text.true
 
-pub returns-then-b-eq0 : goal.returns-then-b-eq0
-returns-then-b-eq0 c = record {
-  value = mark_half c.args.text.now c.number_end-a.result c.number_end-b.result c.if-b-eq0.true ∙ mark_of_lem c.args.text.now c.number_end-a.result c.number_end-b.result c.number_end-a.ensures.value c.number_end-b.ensures.value;
-  marked = tt;
-}
-
-pub returns-then-b-text : goal.returns-then-b-text
-returns-then-b-text c = record {
-  value = mark_more c.args.text.now c.number_end-a.result c.number_end-b.result c.if-b-text.true ∙ mark_of_lem c.args.text.now c.number_end-a.result c.number_end-b.result c.number_end-a.ensures.value c.number_end-b.ensures.value;
-  marked = tt;
-}
-
-pub returns : goal.returns
-returns c =
-    let first : 0 < c.number_end-a.result = omega arith in
-    let second : 0 < c.number_end-b.result = omega arith in
-    let two = c.number_end-b.ensures.ends_at second in
-    let one = c.number_end-a.ensures.ends_at first in record {
-      value = mark_both c.args.text.now c.number_end-a.result c.number_end-b.result first second c.if-b-text.false ∙ mark_of_lem c.args.text.now c.number_end-a.result c.number_end-b.result c.number_end-a.ensures.value c.number_end-b.ensures.value;
-      marked = (omega (arith, one), omega (arith, two), omega (arith, two), omega (arith, two));
-    }
+pub returns-else-b-text-clause-value : goal.returns-else-b-text-clause-value
+returns-else-b-text-clause-value c =
+    more_behind c.args.text.now c.in_ok-a.a (sym c.in_ok-a.was ∙ c.number_end.ensures.value) c.in_ok-b.b (sym c.in_ok-b.was ∙ c.number_end-2.ensures.value) c.if-b-text.false

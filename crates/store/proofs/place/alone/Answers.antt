@@ -1,20 +1,6 @@
--- `alone`: it fits, or it does not.
-use Prim.Native.Nat.{◌≤◌}
-use native.Mathlib.Omega.{arith}
-use borrow.Author.Rules.{rules}
-use lib.ListN.{length}
-use Rattle.store.proofs.Placing.{placed, unplaced, front_counts}
+-- `alone`: with nothing behind it.
+use mathlib.Core.List.{append-nil}
 use Rattle.store.proofs.place.alone.Goals as goal
 
-pub returns-then-out-text : goal.returns-then-out-text
-returns-then-out-text c = record {
-  placed = unplaced _ _ c.if-out-text.true;
-  prefix_len = search rules;
-}
-
-pub returns : goal.returns
-returns c =
-    let h : length c.args.text.now ≤ length c.args.out.now = omega arith in record {
-      placed = placed h c.put_text.ensures;
-      prefix_len = front_counts h c.put_text.ensures;
-    }
+pub returns-clause-placed : goal.returns-clause-placed
+returns-clause-placed c = rw append-nil at c.beside.ensures.placed

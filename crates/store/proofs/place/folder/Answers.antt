@@ -1,30 +1,22 @@
 -- `folder`: no '/', one as the first byte, or a later one.
 use Prim.Native.Nat.{◌<◌}
 use mathlib.Core.Path.{sym, ◌∙◌}
-use native.Mathlib.Omega.{arith}
+use borrow.Author.Rules.{rules}
 use Rattle.store.specs.Place.{folder_of}
 use Rattle.store.proofs.Placing.{folder_deep}
 use Rattle.store.proofs.place.folder.Goals as goal
 
-pub returns-then-end-eq0 : goal.returns-then-end-eq0
+pub returns-in-0-clause-placed : goal.returns-in-0-clause-placed
 unfolding folder_of
-returns-then-end-eq0 c = record {
-  placed = rw (sym c.slash_end-end.ensures.value ∙ c.if-end-eq0.true) c.alone.ensures.placed;
-  prefix_len = c.alone.ensures.prefix_len;
-}
+returns-in-0-clause-placed c = rw (sym c.slash_end.ensures.value ∙ c.in-0.is) c.alone.ensures.placed
 
-pub returns-then-end-eq1 : goal.returns-then-end-eq1
+pub returns-in-1-clause-placed : goal.returns-in-1-clause-placed
 unfolding folder_of
-returns-then-end-eq1 c = record {
-  placed = rw (sym c.slash_end-end.ensures.value ∙ c.if-end-eq1.true) c.alone-then-end-eq1.ensures.placed;
-  prefix_len = c.alone-then-end-eq1.ensures.prefix_len;
-}
+returns-in-1-clause-placed c = rw (sym c.slash_end.ensures.value ∙ c.in-1.is) c.alone-in-1.ensures.placed
 
-pub returns : goal.returns
+pub returns-in_default-clause-placed : goal.returns-in_default-clause-placed
 unfolding folder_of
-returns c =
-    let end = c.slash_end-end.result in
-    let deep : 1 < end = omega (arith, c.if-end-eq0.false, c.if-end-eq1.false) in record {
-      placed = rw (← c.slash_end-end.ensures.value, folder_deep c.args.path.now end deep) c.alone-2.ensures.placed;
-      prefix_len = c.alone-2.ensures.prefix_len;
-    }
+returns-in_default-clause-placed c =
+    let end = c.slash_end.result in
+    let deep : 1 < end = search rules in
+    rw (← c.slash_end.ensures.value, folder_deep c.args.path.now end deep) c.alone-in_default.ensures.placed

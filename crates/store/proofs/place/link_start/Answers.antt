@@ -1,20 +1,13 @@
 -- `link_start`: the text begins at the root, or it does not.
 use mathlib.Core.Path.{sym, ◌∙◌}
-use native.Mathlib.Omega.{arith}
 use Rattle.store.specs.Place.{link_start}
+use Rattle.store.proofs.Placing.{rooted_starts}
 use Rattle.store.proofs.place.link_start.Goals as goal
 
-pub returns-then-rooted : goal.returns-then-rooted
+pub returns-then-starts_with-clause-value : goal.returns-then-starts_with-clause-value
 unfolding link_start
-returns-then-rooted c = let e = sym c.rooted.ensures ∙ c.if-rooted.true in record {
-  value = rw e;
-  upper_bound = omega arith;
-}
+returns-then-starts_with-clause-value c = rw (sym (rooted_starts c.args.text.now) ∙ sym c.if-starts_with.ensures.value)
 
-pub returns : goal.returns
+pub returns-clause-value : goal.returns-clause-value
 unfolding link_start
-returns c =
-    let e = sym c.rooted.ensures ∙ c.if-rooted.false in record {
-      value = rw e c.slash_end.ensures.value;
-      upper_bound = c.slash_end.ensures.upper_bound;
-    }
+returns-clause-value c = rw (sym (rooted_starts c.args.text.now) ∙ sym c.if-starts_with.ensures.value) c.slash_end.ensures.value

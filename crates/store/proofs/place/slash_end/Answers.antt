@@ -1,36 +1,11 @@
--- `slash_end`: the last '/' of all is the last one before place i.
-use Prim.Native.Nat.{◌≤◌}
-use mathlib.Core.Path.{◌≡◌, refl, sym, ◌∙◌}
-use mathlib.Core.List.{[]}
-use native.Mathlib.Omega.{arith}
-use lib.ListN.{length}
-use lib.Seq.{take_all}
-use Rattle.store.specs.Place.{slash_end}
-use Rattle.store.proofs.Placing.{slash_hit, slash_miss}
+-- `slash_end`: the last '/' of all, or none.
+use mathlib.Core.Path.{sym}
+use borrow.Author.Rules.{rules}
+use Rattle.store.proofs.Placing.{slash_none, slash_last}
 use Rattle.store.proofs.place.slash_end.Goals as goal
 
-none : slash_end [] ≡ 0
-unfolding slash_end
-none = refl
+pub returns-in-Some-clause-value : goal.returns-in-Some-clause-value
+returns-in-Some-clause-value c = sym (slash_last c.args.path.now c.in-Some.i (search rules) (search rules) (search rules))
 
-pub loop-i-init : goal.loop-i-init
-loop-i-init c = let p = c.args.path.now in let h : length p ≤ length p = omega arith in (omega arith, rw (take_all (length p) p h))
-
-pub returns-then-path-before-eq47 : goal.returns-then-path-before-eq47
-returns-then-path-before-eq47 c =
-    let hit = slash_hit c.args.path.now c.loop-i.i (omega arith) (omega arith) c.if-path-before-eq47.true in record {
-      value = sym hit ∙ c.loop-i.invariant.1;
-      upper_bound = omega arith;
-    }
-
-pub loop-i-preserved : goal.loop-i-preserved
-loop-i-preserved c =
-    let miss = slash_miss c.args.path.now c.loop-i.i (omega arith) (omega arith) c.if-path-before-eq47.false in
-    (omega arith, sym miss ∙ c.loop-i.invariant.1)
-
-pub returns : goal.returns
-returns c =
-    let z : c.loop-i.i ≡ 0 = omega arith in record {
-      value = sym none ∙ (rw z at c.loop-i.invariant.1);
-      upper_bound = omega arith;
-    }
+pub returns-in-None-clause-value : goal.returns-in-None-clause-value
+returns-in-None-clause-value c = sym (slash_none c.args.path.now (search rules))

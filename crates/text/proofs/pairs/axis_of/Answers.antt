@@ -1,42 +1,48 @@
-use mathlib.Core.Path.{◌≡◌, sym, ◌∙◌}
-use mathlib.Core.Bool.{Bool, true}
-use Rattle.model.specs.Lists.{same}
-use Rattle.model.specs.Request.{axis, axis_words}
-use Rattle.text.proofs.Choice.{Left, chosen, next, meant, untried, missed, found}
-use Rattle.text.proofs.PairLaws.{Placed, placed, axis_place}
+use mathlib.Core.Path.{refl, ◌∙◌}
+use mathlib.Core.List.{List}
+use native.Mathlib.Omega.{arith}
+use Prim.Native.Nat.{ℕ, ◌-◌}
+use lib.ListN.{take, drop}
+use Rattle.model.specs.Lists.{least, same}
+use Rattle.model.specs.Request.{axis}
+use Rattle.text.proofs.PairLaws.{axis_letter, axis_other}
 use Rattle.text.proofs.pairs.axis_of.Goals as goal
 
--- the axes that the word may still be
-abbrev Axes : Type 0
-Axes = Left {C = Placed} (λ p. p.0) (λ p. p.1) 6 (placed 0 axis_words)
+abbrev word : List ℕ → ℕ → ℕ → List ℕ
+word line start end = take (end - start) (drop start line)
 
-is_axis : (t : Axes) {r : Bool} → r ≡ same t.word (next t) → r ≡ true → meant t ≡ axis t.word
-is_axis t e h = found t e h ∙ sym (axis_place t.word)
+pub returns-in-88 : goal.returns-in-88
+unfolding axis least same
+returns-in-88 c =
+    axis_letter (word c.args.line.now c.args.w.start c.args.w.end) _ c.in-len1.len_at_least c.in-len1.len_below c.upper.ensures 88 c.in-88.is
 
-pub returns-then-is_word : goal.returns-then-is_word
-unfolding placed chosen
-returns-then-is_word c = is_axis (untried _ _) c.is_word.ensures c.if-is_word.true
+pub returns-in-89 : goal.returns-in-89
+unfolding axis least same
+returns-in-89 c =
+    axis_letter (word c.args.line.now c.args.w.start c.args.w.end) _ c.in-len1.len_at_least c.in-len1.len_below c.upper.ensures 89 c.in-89.is
 
-pub returns-then-is_word-2 : goal.returns-then-is_word-2
-unfolding placed chosen
-returns-then-is_word-2 c = is_axis (missed (untried _ _) c.is_word.ensures c.if-is_word.false) c.is_word-2.ensures c.if-is_word-2.true
+pub returns-in-90 : goal.returns-in-90
+unfolding axis least same
+returns-in-90 c =
+    axis_letter (word c.args.line.now c.args.w.start c.args.w.end) _ c.in-len1.len_at_least c.in-len1.len_below c.upper.ensures 90 c.in-90.is
 
-pub returns-then-is_word-3 : goal.returns-then-is_word-3
-unfolding placed chosen
-returns-then-is_word-3 c = is_axis (missed (missed (untried _ _) c.is_word.ensures c.if-is_word.false) c.is_word-2.ensures c.if-is_word-2.false) c.is_word-3.ensures c.if-is_word-3.true
+pub returns-in-85 : goal.returns-in-85
+unfolding axis least same
+returns-in-85 c =
+    axis_letter (word c.args.line.now c.args.w.start c.args.w.end) _ c.in-len1.len_at_least c.in-len1.len_below c.upper.ensures 85 c.in-85.is
 
-pub returns-then-is_word-4 : goal.returns-then-is_word-4
-unfolding placed chosen
-returns-then-is_word-4 c = is_axis (missed (missed (missed (untried _ _) c.is_word.ensures c.if-is_word.false) c.is_word-2.ensures c.if-is_word-2.false) c.is_word-3.ensures c.if-is_word-3.false) c.is_word-4.ensures c.if-is_word-4.true
+pub returns-in-86 : goal.returns-in-86
+unfolding axis least same
+returns-in-86 c =
+    axis_letter (word c.args.line.now c.args.w.start c.args.w.end) _ c.in-len1.len_at_least c.in-len1.len_below c.upper.ensures 86 c.in-86.is
 
-pub returns-then-is_word-5 : goal.returns-then-is_word-5
-unfolding placed chosen
-returns-then-is_word-5 c = is_axis (missed (missed (missed (missed (untried _ _) c.is_word.ensures c.if-is_word.false) c.is_word-2.ensures c.if-is_word-2.false) c.is_word-3.ensures c.if-is_word-3.false) c.is_word-4.ensures c.if-is_word-4.false) c.is_word-5.ensures c.if-is_word-5.true
+pub returns-in-87 : goal.returns-in-87
+unfolding axis least same
+returns-in-87 c =
+    axis_letter (word c.args.line.now c.args.w.start c.args.w.end) _ c.in-len1.len_at_least c.in-len1.len_below c.upper.ensures 87 c.in-87.is
 
-pub returns-then-is_word-6 : goal.returns-then-is_word-6
-unfolding placed chosen
-returns-then-is_word-6 c = is_axis (missed (missed (missed (missed (missed (untried _ _) c.is_word.ensures c.if-is_word.false) c.is_word-2.ensures c.if-is_word-2.false) c.is_word-3.ensures c.if-is_word-3.false) c.is_word-4.ensures c.if-is_word-4.false) c.is_word-5.ensures c.if-is_word-5.false) c.is_word-6.ensures c.if-is_word-6.true
-
-pub returns : goal.returns
-unfolding placed chosen
-returns c = let t : Axes = missed (missed (missed (missed (missed (missed (untried _ _) c.is_word.ensures c.if-is_word.false) c.is_word-2.ensures c.if-is_word-2.false) c.is_word-3.ensures c.if-is_word-3.false) c.is_word-4.ensures c.if-is_word-4.false) c.is_word-5.ensures c.if-is_word-5.false) c.is_word-6.ensures c.if-is_word-6.false in t.alike ∙ sym (axis_place t.word)
+pub returns-in_default-upper : goal.returns-in_default-upper
+returns-in_default-upper c =
+    let u = c.upper.result in
+    axis_other u (λ e. omega (arith, e)) (λ e. omega (arith, e)) (λ e. omega (arith, e)) (λ e. omega (arith, e)) (λ e. omega (arith, e)) (λ e. omega (arith, e)) ∙
+    axis_letter (word c.args.line.now c.args.w.start c.args.w.end) u c.in-len1.len_at_least c.in-len1.len_below c.upper.ensures u refl

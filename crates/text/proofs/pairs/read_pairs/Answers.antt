@@ -6,6 +6,7 @@ use mathlib.Core.Bool.{Bool, true, false}
 use mathlib.Core.Option.{none, some}
 use native.Mathlib.Omega.{arith}
 use borrow.Author.Rules.{rules}
+use borrow.Author.Tests.{eqb-true, eqb-false}
 use mir.Syntax.{w64}
 use mir.Val.{to_z, of_z}
 use lib.IntN.{ℤ}
@@ -14,16 +15,17 @@ use Rattle.model.specs.declared.Kind.{Kind}
 use Rattle.model.specs.Request.{axis, may_come, pairs, no_values}
 use Rattle.model.specs.Told.{refuses}
 use Rattle.model.proofs.Told.{told_value}
+use Rattle.facts.specs.Refusals.{told_or}
 use Rattle.text.specs.Cursor.{run, word_of, words_from}
 use Rattle.text.specs.declared.numbers.Num.{Num}
 use Rattle.text.specs.declared.numbers.Num.TheVariants.{Start}
-use Rattle.text.specs.Numbers.{Good, stepped, folded, valued, value_told, wrong}
+use Rattle.text.specs.Numbers.{Good, stepped, folded, valued, wrong}
 use Rattle.text.specs.Pairs.{pairs_read, answered, values_of}
 use Rattle.text.proofs.NumberBytes.{rest, fold_next, fold_end, fold_wrong}
 use Rattle.text.proofs.NumberRange.{good_stepped}
 use Rattle.text.proofs.PairLaws.{none_yet, clean_set, came_set, ranged_values, may_axis}
 use Rattle.text.proofs.PairWords.{line_end, line_axis, line_number, line_on}
-use Rattle.text.proofs.WordLaws.{start_from, word_within, word_on, lead_le, lead_end, run_next, run_stop}
+use Rattle.text.proofs.WordLaws.{start_from, word_within, lead_le, lead_end, run_next, run_stop}
 use Rattle.text.proofs.pairs.read_pairs.Goals.{else-loop-at-test, then-loop-at-test+then-b-eq32}
 use Rattle.text.proofs.pairs.read_pairs.Goals as goal
 
@@ -48,13 +50,13 @@ pub pairs-init : goal.pairs-init
 unfolding values_of
 pairs-init c = (c.requires, refl, refl, (λ i e. none_yet 6 i), refl)
 
-pub returns-then-a : goal.returns-then-a
+pub returns-then-is_empty : goal.returns-then-is_empty
 unfolding answered
-returns-then-a c =
+returns-then-is_empty c =
     let v = c.pairs.invariant in
     let l = c.args.line.now in
-    let h = line_end c.args.kind l c.pairs.at c.next_word-a.result c.next_word-a.ensures (values_of c.pairs.came c.pairs.values) c.if-a.true in
-    c.finished.ensures ∙ sym (ap answered (v.4 ∙ h) ∙ ranged_values c.pairs.came c.pairs.values (v.2 ∙ sym v.1) v.3)
+    let h = line_end c.args.kind l c.pairs.at c.next_word-a.result c.next_word-a.ensures (values_of c.pairs.came c.pairs.values) (eqb-true _ _ (sym c.is_empty.ensures ∙ c.if-is_empty.true)) in
+    c.kept.ensures ∙ sym (ap answered (v.4 ∙ h) ∙ ranged_values c.pairs.came c.pairs.values (v.2 ∙ sym v.1) v.3)
 
 pub axis_of-i-requires : goal.axis_of-i-requires
 axis_of-i-requires c = word_within c.args.line.now c.pairs.at c.next_word-a.result c.next_word-a.ensures c.pairs.invariant.0
@@ -105,20 +107,6 @@ bounds-came-i c =
     let v = c.pairs.invariant in
     small c.args.kind c.pairs.came c.pairs.values v.1 v.2 c.axis_of-i.result c.may_come.result c.may_come.ensures c.if-not-may_come.false
 
-pub pairs-smaller : goal.pairs-smaller
-pairs-smaller c =
-    let l = c.args.line.now in
-    let w = word_within l c.pairs.at c.next_word-a.result c.next_word-a.ensures c.pairs.invariant.0 in
-    omega (
-      arith,
-      word_on l c.pairs.at c.next_word-a.result c.next_word-a.ensures,
-      w.ordered,
-      c.if-a.false,
-      c.past-at.ensures,
-      c.loop-at.invariant.0,
-      c.loop-at.invariant.1,
-    )
-
 pub pairs-preserved : goal.pairs-preserved
 pairs-preserved c =
     let k = c.args.kind in
@@ -130,7 +118,7 @@ pairs-preserved c =
     let i = c.axis_of-i.result in
     let a = c.next_word-a.result in
     let at = c.loop-at.at in
-    let z = c.in-Millionths.z in
+    let z = c.in-Some.z in
     let r = values_of came values in
     let taken = c.if-not-may_come.false in
     let six = small k came values v.1 v.2 i c.may_come.result c.may_come.ensures taken in
@@ -139,11 +127,11 @@ pairs-preserved c =
     elim c.loop-at-test.branch [ else-loop-at-test w ↦ lead_end false l at w.loop-at-test.false | then-loop-at-test+then-b-eq32 w ↦ run_stop l at w.loop-at-test.true w.if-b-eq32.true ]
     in
     let number_is = u.3 ∙ fold_end l at c.loop-at.n stopped in
-    let value_is : valued c.loop-at.n ≡ some z = told_value _ _ _ (ap value_told (sym c.in-Millionths.is) ∙ c.value_of-v.ensures) in
+    let value_is : valued c.loop-at.n ≡ some z = told_value _ _ _ c.in-Some.ensures in
     let s = start_from l a.end in
     let behind : s + run (drop s l) ≡ at = ap (λ (j : ℕ). j + run (drop j l)) (sym c.past-at.ensures) ∙ omega (arith, u.4, stopped) in
     let on : pairs k (words_from l c.pairs.at) r ≡ pairs k (words_from l at) (values_of (set came i true) (set values i z)) =
-    line_on k l c.pairs.at a c.next_word-a.ensures r c.if-a.false z
+    line_on k l c.pairs.at a c.next_word-a.ensures r (eqb-false _ _ (sym c.is_empty.ensures ∙ c.if-is_empty.false)) z
     (ap (λ (j : ℕ). valued (folded Start (rest l j))) (sym c.past-at.ensures) ∙ ap valued number_is ∙ value_is) may_it ∙
     ap (λ (j : ℕ). pairs k (words_from l j) (set r (axis (word_of l a)) (some z))) behind ∙
     ap (λ (i : ℕ). pairs k (words_from l at) (set r i (some z))) (sym c.axis_of-i.ensures) ∙
@@ -168,7 +156,7 @@ returns-then-not-may_come c =
     let a = c.next_word-a.result in
     let m = may k c.pairs.came c.pairs.values v.1 v.2 c.axis_of-i.result c.may_come.result c.may_come.ensures (word_of l a) c.axis_of-i.ensures in
     refused k l c.args.from v.4
-    (line_axis k l c.pairs.at a c.next_word-a.ensures (values_of c.pairs.came c.pairs.values) c.if-a.false (m ∙ c.if-not-may_come.true))
+    (line_axis k l c.pairs.at a c.next_word-a.ensures (values_of c.pairs.came c.pairs.values) (eqb-false _ _ (sym c.is_empty.ensures ∙ c.if-is_empty.false)) (m ∙ c.if-not-may_come.true))
 
 pub returns-then-is_wrong : goal.returns-then-is_wrong
 returns-then-is_wrong c =
@@ -179,7 +167,7 @@ returns-then-is_wrong c =
     let q : wrong m ≡ true = ap wrong (sym c.step-n.ensures) ∙ sym c.is_wrong.ensures ∙ c.if-is_wrong.true in
     let on = c.loop-at.invariant.3 ∙ fold_next l at c.loop-at.n c.loop-at-test.true c.if-b-eq32.false in
     refused k l c.args.from c.pairs.invariant.4
-    (line_number k l c.pairs.at c.next_word-a.result c.next_word-a.ensures (values_of c.pairs.came c.pairs.values) c.if-a.false
+    (line_number k l c.pairs.at c.next_word-a.result c.next_word-a.ensures (values_of c.pairs.came c.pairs.values) (eqb-false _ _ (sym c.is_empty.ensures ∙ c.if-is_empty.false))
     (ap (λ (j : ℕ). valued (folded Start (rest l j))) (sym c.past-at.ensures) ∙ ap valued (on ∙ fold_wrong (rest l (at + 1)) m q)))
 
 pub returns-in_default : goal.returns-in_default
@@ -192,5 +180,5 @@ returns-in_default c =
     in
     let number_is = c.loop-at.invariant.3 ∙ fold_end l at c.loop-at.n stopped in
     refused k l c.args.from c.pairs.invariant.4
-    (line_number k l c.pairs.at c.next_word-a.result c.next_word-a.ensures (values_of c.pairs.came c.pairs.values) c.if-a.false
-    (ap (λ (j : ℕ). valued (folded Start (rest l j))) (sym c.past-at.ensures) ∙ ap valued number_is ∙ told_value _ _ _ (ap value_told (sym c.in_default.is) ∙ c.value_of-v.ensures)))
+    (line_number k l c.pairs.at c.next_word-a.result c.next_word-a.ensures (values_of c.pairs.came c.pairs.values) (eqb-false _ _ (sym c.is_empty.ensures ∙ c.if-is_empty.false))
+    (ap (λ (j : ℕ). valued (folded Start (rest l j))) (sym c.past-at.ensures) ∙ ap valued number_is ∙ told_value _ _ _ (ap (told_or 5 (λ (z : ℤ). z)) (sym c.in_default.is) ∙ c.value_of.ensures)))

@@ -11,7 +11,7 @@ is c = c.magnitude-m.ensures ∙ ap nat_abs (to_z-of_z c.ranges.z)
 
 pub returns-then-m-eq0 : goal.returns-then-m-eq0
 unfolding angle?
-returns-then-m-eq0 c = rw (← is (goal.at.returns-then-m-eq0 c).After-magnitude-m, eq-eqb _ _ c.if-m-eq0.true)
+returns-then-m-eq0 c = rw (← is (goal.at.returns-then-m-eq0 c).After-magnitude-m, eq-eqb _ _ c.if-m-eq0.true, c.from.ensures)
 
 pub returns-else-m-eq0 : goal.returns-else-m-eq0
 unfolding angle?

@@ -1,56 +1,22 @@
 use Prim.Native.Nat.{◌-◌}
-use mathlib.Core.Path.{refl, sym, ◌∙◌}
-use native.Mathlib.Omega.{arith}
-use Rattle.text.specs.Cursor.{word_at}
-use Rattle.text.proofs.Lists.{same_length, same_next, same_stop, same_end}
-use Rattle.text.proofs.WordLaws.{length_word, word_at_lem}
+use mathlib.Core.Path.{sym, ◌∙◌}
+use mathlib.Core.List.{map}
+use borrow.Author.Rules.{rules}
+use borrow.Author.Tests.{tests, ne_eqb}
+use lib.Dec.{eqb}
+use lib.ListN.{take, drop, length-map}
+use Rattle.std.proofs.lemmas.Iterator.{YieldsList-from_slice, YieldsList-from_zip}
+use Rattle.std.proofs.lemmas.Iterator.Search.{all_from_yields_List}
+use Rattle.model.specs.Words.{upper}
+use Rattle.text.proofs.Lists.{same_length, same_zipped}
 use Rattle.text.proofs.words.is_word.Goals as goal
 
-pub overflow_sub-n : goal.overflow_sub-n
-overflow_sub-n c = c.requires.ordered
+pub returns-then-word-text : goal.returns-then-word-text
+returns-then-word-text c =
+    let l = take (c.args.w.end - c.args.w.start) (drop c.args.w.start c.args.line.now) in
+    all_from_yields_List (λ p. eqb (upper p.0) p.1) c.all.new.self _ c.all.result c.all.ensures.ran (YieldsList-from_zip (YieldsList-from_slice l cc) (YieldsList-from_slice c.args.text.now cc)) (λ x b q k. search (rules, tests)) ∙
+    same_zipped upper l c.args.text.now c.if-word-text.true
 
-pub returns-then-n-text : goal.returns-then-n-text
-returns-then-n-text c =
-    let l = length_word c.args.line.now c.args.w.start (c.args.w.end - c.args.w.start) (omega (arith, c.requires.ordered, c.requires.inside)) in
-    sym (same_length _ _ (λ e. c.if-n-text.true (sym l ∙ e)))
-
-pub loop-i-init : goal.loop-i-init
-loop-i-init c =
-    let p = c.requires in
-    (omega arith, c.if-n-text.false, omega (arith, p.ordered, p.inside), refl)
-
-pub returns-then-upper-text : goal.returns-then-upper-text
-returns-then-upper-text c =
-    let a = c.args in
-    let n = a.w.end - a.w.start in
-    let v = c.loop-i.invariant in
-    let h = c.loop-i-test.true in
-    let g = v.1 in
-    let r = word_at_lem a.line.now a.w.start n v.2 c.loop-i.i h ∙ sym c.upper.ensures in
-    let l = length_word a.line.now a.w.start n v.2 ∙ g in
-    sym (v.3 ∙ same_stop (word_at a.line.now a.w.start n) _ c.loop-i.i (omega (arith, l)) (omega arith) (λ e. c.if-upper-text.true (sym r ∙ e)))
-
-pub loop-i-preserved : goal.loop-i-preserved
-loop-i-preserved c =
-    let a = c.args in
-    let n = a.w.end - a.w.start in
-    let v = c.loop-i.invariant in
-    let h = c.loop-i-test.true in
-    let g = v.1 in
-    let r = word_at_lem a.line.now a.w.start n v.2 c.loop-i.i h ∙ sym c.upper.ensures in
-    let l = length_word a.line.now a.w.start n v.2 ∙ g in (
-      omega arith,
-      g,
-      v.2,
-      v.3 ∙ same_next (word_at a.line.now a.w.start n) _ c.loop-i.i (omega (arith, l)) (omega arith) (r ∙ c.if-upper-text.false),
-    )
-
-pub returns : goal.returns
-returns c =
-    let a = c.args in
-    let n = a.w.end - a.w.start in
-    let v = c.loop-i.invariant in
-    let g = v.1 in
-    let h = c.loop-i-test.false in
-    let l = length_word a.line.now a.w.start n v.2 ∙ g in
-    sym (v.3 ∙ same_end (word_at a.line.now a.w.start n) _ c.loop-i.i (omega (arith, l)) (omega arith))
+pub returns-else-word-text : goal.returns-else-word-text
+returns-else-word-text c = let l = take (c.args.w.end - c.args.w.start) (drop c.args.w.start c.args.line.now) in
+    ne_eqb _ _ c.if-word-text.false ∙ sym (same_length (map upper l) _ (λ e. c.if-word-text.false (sym (length-map l upper) ∙ e)))

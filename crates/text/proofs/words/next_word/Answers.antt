@@ -8,6 +8,3 @@ pub past-end-requires : goal.past-end-requires
 past-end-requires c =
     let a = c.args in
     omega (arith, lead_le true (drop a.at a.line.now), length-drop a.at a.line.now)
-
-pub returns : goal.returns
-returns c = rw (c.past-end.ensures, c.past-start.ensures)

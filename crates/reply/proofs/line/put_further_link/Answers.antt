@@ -1,5 +1,0 @@
-use Rattle.print.proofs.Laws.{wrote_then}
-use Rattle.reply.proofs.line.put_further_link.Goals as goal
-
-pub returns : goal.returns
-returns c = wrote_then c.put_text-a.ensures c.put_link.ensures
