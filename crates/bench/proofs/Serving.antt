@@ -9,7 +9,6 @@ use lib.ListN.{length, take, drop, length-append}
 use lib.Seq.{take-append_seam}
 use Rattle.std.proofs.Common.{Ok, Err}
 use Rattle.std.specs.Prelude.{Result}
-use Rattle.std.specs.Result.{result_unwrap_or}
 use Rattle.facts.specs.declared.refusals.Refusal.{Refusal}
 use Rattle.model.specs.declared.State.{State as StoredState}
 use Rattle.model.specs.Limits.{buffer_limit}
@@ -53,11 +52,6 @@ image_written d s fine b room r after p =
       within = rw bytes (omega (arith, count, length-append i (drop (length i) b)));
       bytes = λ t. rw (bytes, count) (take-append_seam i (drop (length i) b));
     }
-
--- of a refusal, no byte
-pub written_is : (r : Result ℕ Refusal) (n : ℕ) → n ≡ result_unwrap_or r 0 → n ≡ written_by r
-written_is (Ok k) n e = e
-written_is (Err why) n e = e
 
 -- where none is due, none is there
 pub image_undue : (d : Due) (s : StoredState) (b : List ℕ) → d.store ≡ false → Imaged d s b 0

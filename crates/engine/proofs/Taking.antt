@@ -5,6 +5,7 @@ use mathlib.Core.List.{List}
 use mathlib.Core.Bool.{Bool, true, false, ◌&&◌}
 use lib.Dec.{eqb}
 use Rattle.std.specs.Prelude.{Result, Ok, Err, IsErr, IsErrAnd}
+use Rattle.std.specs.Result.{result_unwrap_or}
 use Rattle.facts.specs.declared.refusals.Refusal.{Refusal}
 use Rattle.facts.specs.Refusals.{number_of, outcome}
 use Rattle.model.specs.declared.Memory.{Memory as StoredMemory}
@@ -123,10 +124,6 @@ length_number : (r : Result Step Refusal) → outcome (length_of r) ≡ outcome 
 length_number (Ok r) = refl
 length_number (Err why) = refl
 
-length_count : (r : Result Step Refusal) → written_by (length_of r) ≡ count_of r
-length_count (Ok r) = refl
-length_count (Err why) = refl
-
 -- a step taken, settled, and carried out on the whole state: an answer
 pub taken_answers : {s : StoredState} {w : Bool} {o : Outcome} {r : Result Step Refusal} {b : List ℕ} (t : StoredState) →
     Takes s w o r b → let d = settled_by (memory_of s.permanent) r in Applied s (deed_of d) t → shaped s ≡ true →
@@ -134,5 +131,10 @@ pub taken_answers : {s : StoredState} {w : Bool} {o : Outcome} {r : Result Step 
 taken_answers {s} {w} {o} {r} {b} t taken applied shape =
     let d = settled_by (memory_of s.permanent) r in
     answer_holds (record { state = t; outcome = length_of d }) b (applied.shape shape)
-    ∙ (λ i. of_outcome (record { state = applied.state i; number = length_number d i; count = length_count d i; buffer = b }))
+    ∙ (λ i. of_outcome (record { state = applied.state i; number = length_number d i; count = count_of d; buffer = b }))
     ∙ ap of_outcome taken.outcome
+
+-- how much was written, by std's word: of a refusal, no byte
+pub written_is : (r : Result ℕ Refusal) → result_unwrap_or r 0 ≡ written_by r
+written_is (Ok n) = refl
+written_is (Err why) = refl

@@ -9,6 +9,7 @@ use Rattle.model.specs.Stored.{state_of}
 use Rattle.commands.specs.declared.changed.Deed.{Deed}
 use Rattle.commands.specs.Done.{settle, done_by, saving_by, Doable}
 use Rattle.engine.specs.declared.answer.Step.{Step}
+use Rattle.engine.specs.Answers.{written_by}
 
 -- what is done, or why nothing is
 abbrev pub deed_of : Result Step Refusal → Result Deed Refusal
@@ -22,8 +23,7 @@ length_of (Err why) = Err why
 
 -- how many bytes of the lent buffer were written; a refusal writes none
 abbrev pub count_of : Result Step Refusal → ℕ
-count_of (Ok r) = r.length
-count_of (Err why) = 0
+count_of r = written_by (length_of r)
 
 -- a deed, with so many bytes written
 abbrev pub step_of : ℕ → Result Deed Refusal → Result Step Refusal

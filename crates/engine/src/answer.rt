@@ -1,6 +1,6 @@
 // What a line gives: what it does and how long its reply is, or why it is refused.
 ghost use Rattle.std.specs.Prelude.{◌≡◌};
-ghost use Rattle.engine.specs.Taken.{step_of};
+ghost use Rattle.engine.specs.Taken.{step_of, deed_of};
 
 use commands::changed::Deed;
 use facts::refusals::Refusal;
@@ -36,4 +36,11 @@ pub fn replied(length: usize) -> Step
         deed: Deed::Keep,
         length,
     }
+}
+
+// What is done, without what was written.
+pub fn deed_of(decided: Result<Step, Refusal>) -> Result<Deed, Refusal>
+    ensures { result ≡ deed_of decided }
+{
+    decided.map(|step| step.deed)
 }

@@ -10,14 +10,14 @@ ghost use Rattle.request.specs.Asked.{request_of};
 ghost use Rattle.commands.specs.Obeyed.{obeyed};
 ghost use Rattle.commands.specs.Subject.{Tells};
 ghost use Rattle.engine.specs.Answers.{answered_of};
-ghost use Rattle.engine.specs.Taken.{Takes, settled_by, deed_of, length_of};
+ghost use Rattle.engine.specs.Taken.{Takes, settled_by, length_of};
 
-use crate::answer::{Step, Stepped, silent};
+use crate::answer::{Step, Stepped, deed_of, silent};
 use crate::lists::{
     enabled_line, error_line, links_line, relative_line, resultant_line, resultants_line,
     systems_line,
 };
-use commands::changed::{Deed, applied};
+use commands::changed::applied;
 use commands::subject::{Subject, look};
 use commands::systems::{copy, define, enable, link, locate, remove};
 use commands::whole::{reset, restore, save, set_level};
@@ -102,13 +102,6 @@ pub fn settled(saved: Memory, decided: Result<Step, Refusal>) -> Result<Step, Re
     let step = decided?;
     commands::changed::settled(saved, step.deed)?;
     decided
-}
-
-// What is done, without what was written.
-fn deed_of(decided: Result<Step, Refusal>) -> Result<Deed, Refusal>
-    ensures { result ≡ deed_of decided }
-{
-    decided.map(|step| step.deed)
 }
 
 // How much was written.

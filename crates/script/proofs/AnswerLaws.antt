@@ -1,7 +1,6 @@
 -- Laws of the texts of answers, and of their lengths.
 use Rattle.std.proofs.Common.{◌≡◌, ℕ, ◌+◌, ◌*◌, ◌^◌, ◌<◌, ◌≤◌, Bool, true, false, cond, List, [], ◌∷◌, length, refl, ap, append-nil, arith, length-append}
 use Rattle.std.specs.Prelude.{Result, Ok, Err}
-use Rattle.std.specs.Result.{result_unwrap_or}
 use Rattle.std.specs.Int.{from_bool}
 use Rattle.model.specs.Ascii.{ascii}
 use Rattle.model.specs.Lists.{joined}
@@ -30,11 +29,6 @@ said_few n t h = omega (arith, length_said n t, head_short n h)
 
 pub said_short : (n : ℕ) (t : List ℕ) → n < 256 → length (said n (hexed t)) ≤ 2 * length t + beside
 said_short n t h = omega (arith, said_few n (hexed t) h, length_hexed t)
-
--- a call's reply, by std's word
-pub written_is : (o : Result ℕ Refusal) → result_unwrap_or o 0 ≡ written_by o
-written_is (Ok n) = refl
-written_is (Err why) = refl
 
 -- ---- the question of use
 

@@ -28,10 +28,9 @@ use Rattle.model.proofs.Histories.Kept.{well_formed_kept}
 use Rattle.commands.specs.Done.{saving_by, Doable, Applied}
 use Rattle.engine.specs.declared.answer.Step.{Step}
 use Rattle.engine.specs.Taken.{Takes, deed_of, count_of, settled_by, outcome_by}
-use Rattle.engine.specs.Taken.{step_of}
 use Rattle.commands.specs.declared.changed.Deed.{Deed}
 use Rattle.commands.specs.Done.{settle, settles}
-use Rattle.commands.proofs.Settled.{doable_settled, saving_settled}
+use Rattle.engine.proofs.Taking.{can_settled, saves_settled}
 use Rattle.facts.specs.declared.refusals.Refusal.{Refusal}
 use Rattle.facts.specs.Refusals.{number_of}
 use Rattle.facts.specs.Refusals.{outcome as told}
@@ -115,14 +114,6 @@ module _ (s : StoredState) (fine : FineState s) (line b : List ℕ) (long : buff
 
 -- ---- what a settled line does, and what is due behind it
 
-deed_step : (n : ℕ) (d : Result Deed Refusal) → deed_of (step_of n d) ≡ d
-deed_step n (Ok d) = refl
-deed_step n (Err why) = refl
-
-deed_settled : (p : Memory) (r : Result Step Refusal) → deed_of (settled_by p r) ≡ settles p (deed_of r)
-deed_settled p (Ok r) = deed_step r.length (settle p r.deed)
-deed_settled p (Err why) = refl
-
 cond_same : (b : Bool) → ◌≡◌ {A = ℕ} (cond b 0 0) 0
 cond_same true = refl
 cond_same false = refl
@@ -144,9 +135,6 @@ module _ (k : StoredManner) where
 module _ (k : StoredManner) (s : StoredState) (t : Tally) (fine : FineState s) (line b : List ℕ) (long : buffer_limit ≤ length b) (decided : Result Step Refusal) (c : List ℕ)
     (takes : Takes s (asks_to_save (reading line)) (stepped (state_of s) line b) decided c) (settled : Result Step Refusal)
     (is_settled : settled ≡ settled_by (memory_of s.permanent) decided) where
-  deed_is : deed_of settled ≡ settles (memory_of s.permanent) (deed_of decided)
-  deed_is = ap deed_of is_settled ∙ deed_settled (memory_of s.permanent) decided
-
   abbrev pub settled_outcome : Outcome
   settled_outcome = outcome_by (state_of s) settled c
 
@@ -154,11 +142,11 @@ module _ (k : StoredManner) (s : StoredState) (t : Tally) (fine : FineState s) (
   settled_is = ap (λ (r : Result Step Refusal). outcome_by (state_of s) r c) is_settled ∙ takes.outcome
 
   pub doable_done : Doable s.volatile (deed_of settled)
-  doable_done = rw deed_is (doable_settled (memory_of s.permanent) takes.doable)
+  doable_done = rw is_settled (can_settled (memory_of s.permanent) decided takes.doable)
 
   saves_done : saving_by (deed_of settled) ≡ eqb (told settled) 0 && asks_to_save (reading line)
   saves_done =
-      ap saving_by deed_is ∙ saving_settled (memory_of s.permanent) (deed_of decided)
+      ap (λ (r : Result Step Refusal). saving_by (deed_of r)) is_settled ∙ saves_settled (memory_of s.permanent) decided
       ∙ takes.saves ∙ ap (λ (x : Outcome). eqb x.number 0 && asks_to_save (reading line)) (sym settled_is)
 
   pub answers_taken : (d : List ℕ) (n : ℕ) → Says (told settled) (count_of settled) c d n → length d ≡ length b →

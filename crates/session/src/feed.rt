@@ -3,17 +3,16 @@ ghost use Rattle.std.specs.Prelude.{◌≡◌, ◌≤◌, length};
 ghost use Rattle.model.specs.Limits.{buffer_limit};
 ghost use Rattle.model.specs.Stored.{FineState};
 ghost use Rattle.model.specs.Tally.{empty_tally};
-ghost use Rattle.engine.specs.Taken.{deed_of};
 ghost use Rattle.tally.specs.Counts.{tally_of};
 ghost use Rattle.session.specs.Blocks.{Begins, Answers, Feeds, Ends};
 
 use crate::cut::{Kept, keep, nothing_held};
 use crate::due::{Due, Manner, due_of, nothing_due};
 use crate::run::{run_lines, say};
-use commands::changed::{Deed, applied};
-use engine::answer::Step;
+use commands::changed::applied;
+use engine::answer::deed_of;
 use engine::line::{decide, settled};
-use facts::refusals::{Refusal, number_told};
+use facts::refusals::number_told;
 use lines::line_end;
 use model::State;
 use tally::Tally;
@@ -53,13 +52,6 @@ pub fn begin() -> Session
     ensures { Begins result }
 {
     begin_from(machine::start_factory())
-}
-
-// What is done, without what was written.
-fn deed_of(settled: Result<Step, Refusal>) -> Result<Deed, Refusal>
-    ensures { result ≡ deed_of settled }
-{
-    settled.map(|step| step.deed)
 }
 
 // The reply as it is, or E and the number; then what was decided is done.

@@ -1,7 +1,8 @@
 use Rattle.std.proofs.Common.{◌≡◌, ℕ, ◌≤◌, length, take, min, refl, ap, ◌∙◌, arith, length-take-le}
 use Rattle.std.proofs.lemmas.List.{take_min}
 use Rattle.engine.specs.Answers.{written_by}
-use Rattle.script.proofs.AnswerLaws.{said_short, written_is}
+use Rattle.engine.proofs.Taking.{written_is}
+use Rattle.script.proofs.AnswerLaws.{said_short}
 use Rattle.script.proofs.obey.say.Goals.{After-min-count}
 use Rattle.script.proofs.obey.say.Goals as goal
 
