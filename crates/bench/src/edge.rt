@@ -64,8 +64,8 @@ fn hand_out(
     if due.store {
         save(rt, to, image)?;
     }
-    if let Some(why) = due.reason {
-        explain(rt, u8::from(why));
+    if let Some(number) = due.reason {
+        explain(rt, number);
     }
     Ok(())
 }

@@ -17,7 +17,7 @@ use Rattle.facts.specs.Refusals.{number_of}
 use Rattle.memory.specs.Put.{put_at}
 use Rattle.memory.proofs.Shape.{shape_both, shape_parts}
 use Rattle.commands.specs.declared.changed.Deed.{Deed}
-use Rattle.commands.specs.declared.changed.Deed.TheVariants.{Keep, ClearError, Put, Remove, Enable, SetLevel, Save, Restore, Reset}
+use Rattle.commands.specs.declared.changed.Deed.TheVariants.{Keep, SetError, Put, Remove, Enable, SetLevel, Save, Restore, Reset}
 use Rattle.commands.specs.Done.{done, done_by, Fits, Doable, Applied}
 
 -- the place of a deed that can be done
@@ -28,7 +28,7 @@ module _ {m : StoredMemory} {r : Result Deed Refusal} (can : Doable m r) where
 
   pub remove_fits : {k : ℕ} {x : StoredSystem} → r ≡ Ok (Remove k x) → (0 < k) × (k ≤ length (systems_of m))
   unfolding Fits
-  remove_fits e = rw e at can.fits
+  remove_fits e = let fits = rw e at can.fits in (fits.0, fits.1)
 
 module _ {s : StoredState} {r : Result Deed Refusal} where
   pub applied_refused : {why : Refusal} → r ≡ Err why → {n : ℕ} → n ≡ number_of why → Applied s r (record { volatile = s.volatile; permanent = s.permanent; position = s.position; level = s.level; error = n })
@@ -39,9 +39,9 @@ module _ {s : StoredState} {r : Result Deed Refusal} where
   unfolding done
   applied_keep e = record { state = rw (e, done) refl; shape = λ h. h }
 
-  pub applied_clear : r ≡ Ok ClearError → Applied s r (record { volatile = s.volatile; permanent = s.permanent; position = s.position; level = s.level; error = 0 })
+  pub applied_error : {n : ℕ} → r ≡ Ok (SetError n) → Applied s r (record { volatile = s.volatile; permanent = s.permanent; position = s.position; level = s.level; error = n })
   unfolding done shaped
-  applied_clear e = record { state = rw (e, done) refl; shape = λ h. h }
+  applied_error e = record { state = rw (e, done) refl; shape = λ h. h }
 
   pub applied_level : {n : ℕ} → r ≡ Ok (SetLevel n) → Applied s r (record { volatile = s.volatile; permanent = s.permanent; position = s.position; level = n; error = s.error })
   unfolding done shaped

@@ -20,7 +20,7 @@ use Rattle.model.specs.Claims.{applies, in_order}
 use Rattle.model.specs.Checklist.{asks_to_save}
 use Rattle.model.specs.Effects.{with_volatile, removed_at, changed}
 use Rattle.model.specs.Machine.{answered}
-use Rattle.model.specs.Stored.{system_of, systems_of, memory_of, state_of}
+use Rattle.model.specs.Stored.{system_of, systems_of, memory_of, state_of, name_shaped}
 use Rattle.model.proofs.Basics.{either, or_false, and_false}
 use Rattle.model.proofs.Ladder.First.{none_applies}
 use Rattle.model.proofs.Memories.Named.{present_user, user_place, place_within}
@@ -98,12 +98,12 @@ module _ (s : StoredState) (a : List ℕ) (z : first (without_twenty (change_lad
           rw (name, u) (ap (λ (q : ℕ). answered (with_volatile st' (removed_at st'.volatile q)) [] b) place
           ∙ sym (obeyed_accepted st' (remove a) 0 (sym (rw u refl) ∙ left_to_permanent st' a z) b refl))
 
-  pub decides_removal : Decides s (remove a) going
+  pub decides_removal : name_shaped x ≡ true → Decides s (remove a) going
   unfolding Fits saving asks_to_save
-  decides_removal =
+  decides_removal shape =
       let user = remove_user st' a z in
       record {
         outcome = removal_outcome;
-        doable = record { fits = rw place (user_place (memory_of s.volatile) a user, place_within (systems_of s.volatile) a) };
+        doable = record { fits = rw place (user_place (memory_of s.volatile) a user, place_within (systems_of s.volatile) a, shape) };
         saves = sym (and_false (eqb (number_in going (memory_of s.permanent)) 0));
       }

@@ -16,7 +16,7 @@ use Rattle.facts.specs.declared.refusals.Refusal.TheVariants.{Needed}
 use Rattle.facts.specs.Refusals.{number_of, outcome}
 use Rattle.memory.specs.Put.{put_at, holding}
 use Rattle.commands.specs.declared.changed.Deed.{Deed}
-use Rattle.commands.specs.declared.changed.Deed.TheVariants.{Keep, ClearError, Put, Remove, Enable, SetLevel, Save, Restore, Reset}
+use Rattle.commands.specs.declared.changed.Deed.TheVariants.{Keep, SetError, Put, Remove, Enable, SetLevel, Save, Restore, Reset}
 use Rattle.commands.specs.Obeyed.{obeyed}
 
 -- ---- what an accepted line does
@@ -24,7 +24,7 @@ use Rattle.commands.specs.Obeyed.{obeyed}
 -- [Commands] the state once it is done
 unfoldable pub done : Deed → State → State
 done Keep st = st
-done ClearError st = with_error st 0
+done (SetError n) st = with_error st n
 done (Put k x) st = with_volatile st (put_at st.volatile k (system_of x))
 done (Remove k x) st = with_volatile st (removed_at st.volatile k)
 done (Enable e) st = with_volatile st (holding st.volatile.systems e)
@@ -43,10 +43,10 @@ unfoldable pub settle : Memory → Deed → Result Deed Refusal
 settle p (Remove k x) = cond (name_in_use p (system_of x).name) (Err Needed) (Ok (Remove k x))
 settle p d = Ok d
 
--- [Memory 1] its place is one of the stored memory's, or a free one, and the system that it puts there has shape
+-- [Memory 1] its place is one of the stored memory's, or a free one, and the system that it puts there or takes away has shape
 unfoldable pub Fits : Deed → StoredMemory → Type 0
 Fits (Put k x) m = (k ≤ max_systems) × (k ≡ 0 → m.count < max_systems) × (name_shaped x ≡ true)
-Fits (Remove k x) m = (0 < k) × (k ≤ length (systems_of m))
+Fits (Remove k x) m = (0 < k) × (k ≤ length (systems_of m)) × (name_shaped x ≡ true)
 Fits d m = Unit {0}
 
 -- ---- what is decided of a line: what it does, or why it is refused

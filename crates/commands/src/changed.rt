@@ -15,7 +15,7 @@ use model::{Enabled, Memory, State, System};
 #[derive(Clone, Copy)]
 pub enum Deed {
     Keep,
-    ClearError,
+    SetError(u8),
     Put(u8, System),
     Remove(u8, System),
     Enable(Enabled),
@@ -61,7 +61,7 @@ pub fn applied(s: State, decided: Result<Deed, Refusal>) -> State
     match decided {
         Err(why) => r.error = u8::from(why),
         Ok(Deed::Keep) => {}
-        Ok(Deed::ClearError) => r.error = 0,
+        Ok(Deed::SetError(n)) => r.error = n,
         Ok(Deed::Put(place, system)) => r.volatile = put_at(s.volatile, place, system),
         Ok(Deed::Remove(place, _)) => r.volatile = removed_at(s.volatile, place),
         Ok(Deed::Enable(e)) => r.volatile.enabled = e,

@@ -5,11 +5,11 @@ ghost use Rattle.model.specs.Request.{define, locate, link, copy, remove, enable
 ghost use Rattle.model.specs.Stage.{spot};
 ghost use Rattle.model.specs.Stored.{memory_of};
 ghost use Rattle.facts.specs.Refusals.{outcome};
-ghost use Rattle.commands.specs.Subject.{Sees, NumberOf, NumberAt, NumberButTwenty};
+ghost use Rattle.commands.specs.Subject.{Tells, Sees, NumberOf, NumberAt, NumberButTwenty};
 
 use crate::conditions::{at_or_before, locked, no_room, other_type, used_in, wrong_pred};
 use crate::numbers::{Rungs, first_number};
-use crate::subject::Looked;
+use crate::subject::{Looked, Subject};
 use facts::kinds::group_of;
 use facts::refusals::Refusal;
 use memory::stage::aslant;
@@ -98,12 +98,11 @@ pub fn judge_remove(k: Looked, level: u8) -> Result<(), Refusal>
     })
 }
 
-// The enabling of the first name, user or fixed.
+// The enabling of a name, user or fixed.
 #[tactic(auto, unfolding(model::specs::Refusals::change_ladder, model::specs::Refusals::first))]
-pub fn judge_enable(k: Looked, level: u8) -> Result<(), Refusal>
-    ensures { (m : Memory) (x y : List ℕ) → Sees m x y k → NumberOf level (memory_of m) (enable x) (outcome result) }
+pub fn judge_enable(n: Subject, level: u8) -> Result<(), Refusal>
+    ensures { (m : Memory) (x : List ℕ) → Tells (memory_of m) x n → NumberOf level (memory_of m) (enable x) (outcome result) }
 {
-    let n = k.first;
     first_number(Rungs {
         absent: n.found.is_none(),
         locked: locked(level, n.group),

@@ -4,9 +4,9 @@ ghost use Rattle.std.specs.Prelude.{◌≡◌, List, ℕ, ◌≤◌, true};
 ghost use Rattle.model.specs.Limits.{name_limit};
 ghost use Rattle.model.specs.Request.{define, locate, link, copy, remove, enable};
 ghost use Rattle.model.specs.Stage.{position_fine};
-ghost use Rattle.model.specs.Stored.{FineMemory, bytes_of, systems_of};
+ghost use Rattle.model.specs.Stored.{FineMemory, bytes_of, memory_of, systems_of};
 ghost use Rattle.chains.specs.Flat.{LinksOf};
-ghost use Rattle.commands.specs.Subject.{Sees};
+ghost use Rattle.commands.specs.Subject.{Tells, Sees};
 ghost use Rattle.commands.specs.Done.{Decides};
 
 use crate::changed::Deed;
@@ -14,11 +14,11 @@ use crate::judge::{
     judge_copy, judge_define, judge_enable, judge_link, judge_locate, judge_remove,
 };
 use crate::stage::spot;
-use crate::subject::Looked;
+use crate::subject::{Looked, Subject};
 use facts::refusals::Refusal;
 use memory::edit::{fresh_system, relinked, renamed};
 use memory::enable::enabling;
-use model::{Kind, Memory, Name, Position, State, System, Turns, Vec3};
+use model::{Enabled, Kind, Memory, Name, Position, State, System, Turns, Vec3};
 use pose::rotation::shown_of;
 
 // KSD, KST, KSW, KSB, KLD.
@@ -79,11 +79,11 @@ pub fn remove(k: Looked, level: u8) -> Result<Deed, Refusal>
     Ok(Deed::Remove(k.first.place, k.source))
 }
 
-// KEN: the first name, user or fixed, is enabled.
-pub fn enable(k: Looked, level: u8) -> Result<Deed, Refusal>
-    ensures { (s : State) (x y : List ℕ) → s.level ≡ level → Sees s.volatile x y k → Decides s (enable x) result }
+// KEN: a name, user or fixed, is enabled, beside what was.
+pub fn enable(n: Subject, before: Enabled, level: u8) -> Result<Deed, Refusal>
+    ensures { (s : State) (x : List ℕ) → s.level ≡ level → s.volatile.enabled ≡ before → Tells (memory_of s.volatile) x n → Decides s (enable x) result }
 {
-    judge_enable(k, level)?;
-    let after = enabling(level, k.enabled, k.first.kind, k.first.found);
+    judge_enable(n, level)?;
+    let after = enabling(level, before, n.kind, n.found);
     Ok(Deed::Enable(after))
 }

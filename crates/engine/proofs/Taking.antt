@@ -20,10 +20,11 @@ use Rattle.model.specs.Checklist.{asks_to_save}
 use Rattle.model.specs.Stored.{shaped, memory_of, state_of, of_outcome}
 use Rattle.reply.specs.Lines.{Replied}
 use Rattle.commands.specs.declared.changed.Deed.{Deed}
-use Rattle.commands.specs.declared.changed.Deed.TheVariants.{Keep, ClearError}
+use Rattle.commands.specs.declared.changed.Deed.TheVariants.{Keep, SetError}
 use Rattle.commands.specs.declared.subject.Looked.{Looked}
 use Rattle.commands.specs.Obeyed.{obeyed}
-use Rattle.commands.specs.Subject.{Sees}
+use Rattle.commands.specs.declared.subject.Subject.{Subject}
+use Rattle.commands.specs.Subject.{Tells, Sees}
 use Rattle.commands.specs.Done.{done, done_by, saving, saving_by, settle, settles, Fits, Doable, outcome_of, Decides, Applied}
 use Rattle.commands.proofs.Settled.{not_zero, saving_settled, doable_settled}
 use Rattle.engine.specs.declared.answer.Step.{Step}
@@ -35,6 +36,9 @@ use Rattle.engine.proofs.Views.{answer_holds}
 -- what was seen of a memory is so of any that is the same
 pub seen_in : {v m : StoredMemory} {x y : List ℕ} {k : Looked} → v ≡ m → Sees m x y k → Sees v x y k
 seen_in e t = rw e t
+
+pub tells_in : {v m : StoredMemory} {x : List ℕ} {a : Subject} → v ≡ m → Tells (memory_of m) x a → Tells (memory_of v) x a
+tells_in e t = rw e t
 
 -- the same outcome, told in another way
 pub retold : {s : StoredState} {w : Bool} {o p : Outcome} {r : Result Step Refusal} {b : List ℕ} → p ≡ o → Takes s w o r b → Takes s w p r b
@@ -91,7 +95,7 @@ module _ (s : StoredState) (k : ℕ) (text b c : List ℕ) (written : Replied te
   reply_taken is = retold (is ∙ replies (state_of s)) (record { outcome = refl; doable = record { fits = tt }; saves = refl })
 
   -- the last error is then 0
-  pub cleared_taken : {o : Outcome} → o ≡ answered (with_error (state_of s) 0) text b → Takes s false o (Ok (record { deed = ClearError; length = k })) c
+  pub cleared_taken : {o : Outcome} → o ≡ answered (with_error (state_of s) 0) text b → Takes s false o (Ok (record { deed = SetError 0; length = k })) c
   unfolding done saving settle Fits
   cleared_taken is = retold (is ∙ replies (with_error (state_of s) 0)) (record { outcome = refl; doable = record { fits = tt }; saves = refl })
 

@@ -25,8 +25,8 @@ length_of (Err why) = Err why
 abbrev pub count_of : Result Step Refusal → ℕ
 count_of r = written_by (length_of r)
 
--- a deed, with so many bytes written
-abbrev pub step_of : ℕ → Result Deed Refusal → Result Step Refusal
+-- a deed, with so many bytes written, however a refusal is told
+abbrev pub step_of : {E : Type 0} → ℕ → Result Deed E → Result Step E
 step_of n (Ok d) = Ok (record { deed = d; length = n })
 step_of n (Err why) = Err why
 

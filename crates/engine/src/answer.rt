@@ -20,12 +20,14 @@ pub struct Stepped {
     pub outcome: Result<usize, Refusal>,
 }
 
-// A change has no reply.
-pub fn silent(decided: Result<Deed, Refusal>) -> Result<Step, Refusal>
+// A change has no reply. (However its refusal is told.)
+pub fn silent<E>(decided: Result<Deed, E>) -> Result<Step, E>
     ensures { result ≡ step_of 0 decided }
 {
-    let deed = decided?;
-    Ok(Step { deed, length: 0 })
+    match decided {
+        Ok(deed) => Ok(Step { deed, length: 0 }),
+        Err(why) => Err(why),
+    }
 }
 
 // A reply of so many bytes; the state stays.

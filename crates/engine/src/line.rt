@@ -49,7 +49,7 @@ fn carry_out(
         Asked::Link => silent(link(look(m, a, b), level)),
         Asked::Copy => silent(copy(look(m, a, b), level, b)),
         Asked::Remove => silent(remove(look(m, a, b), level)),
-        Asked::Enable => silent(enable(look(m, a, b), level)),
+        Asked::Enable => silent(enable(subject_of(m, a, b), m.enabled, level)),
         Asked::SetLevel(n) => silent(set_level(n)),
         Asked::Save => silent(save()),
         Asked::Restore => silent(restore(level)),

@@ -91,7 +91,7 @@ pub fn error_line(error: u8, reply: &mut [u8]) -> Step
 {
     let length = reply::last_error(error, reply);
     Step {
-        deed: Deed::ClearError,
+        deed: Deed::SetError(0),
         length,
     }
 }

@@ -5,9 +5,9 @@
 use bench::serve::{serve, serve_last};
 use bench::start::start;
 use session::due::Manner;
-use store::save::Target;
+use store::save::{Target, UNLOCKED};
 
-// A sitting: from what the file holds, with these lines, to their end. No lock is held.
+// A sitting: from what the file holds, with these lines, to their end.
 fn sitting(rt: HostRuntime, lines: &[u8]) {
     let k = Manner {
         storing: true,
@@ -15,7 +15,7 @@ fn sitting(rt: HostRuntime, lines: &[u8]) {
     };
     let to = Target {
         path: b"again.img",
-        lock: None,
+        lock: UNLOCKED,
     };
     let mut output = io::buffer();
     let mut image = io::buffer();

@@ -18,7 +18,7 @@ use Rattle.print.proofs.Laws.{wrote_first}
 abbrev short : ℕ → Bool
 short n = leb (length (reason n)) 100
 
-reason_short : (n : ℕ) → n < 256 → length (reason n) ≤ 100
+pub reason_short : (n : ℕ) → n < 256 → length (reason n) ≤ 100
 unfolding later_reason reason
 reason_short n h = leb→le (length (reason n)) 100 (at 256 short tt n h)
 

@@ -1,20 +1,17 @@
 // The lines of the lists. Where there is a place, 0 is the fixed system of the group g, whose text is constant, and s is not looked at; any other place is
 // the user system s, and then g is not.
-ghost use Rattle.std.specs.Prelude.{◌+◌, ◌≤◌, ◌<◌, length};
+ghost use Rattle.std.specs.Prelude.{◌≡◌, true, ◌+◌, ◌≤◌, ◌<◌, length};
 ghost use Rattle.model.specs.Limits.{name_limit};
-ghost use Rattle.model.specs.Pose.{shown};
+ghost use Rattle.model.specs.Kinds.{of_group};
+ghost use Rattle.model.specs.WellFormed.{turns_fine};
 ghost use Rattle.model.specs.Stored.{bytes_of, system_of};
 ghost use Rattle.pose.specs.Poses.{Within, reach};
 ghost use Rattle.print.specs.Over.{Wrote};
-ghost use Rattle.chains.specs.Walk.{walk_of};
-ghost use Rattle.reply.specs.Lines.{Writable, system_text, name_text, pred_text, link_text, enabled_text, pose_text};
-ghost use Rattle.reply.specs.Reached.{Reachable, reached_text};
+ghost use Rattle.reply.specs.Lines.{Writable, system_text, name_text, pred_text, link_text, enabled_text, pose_text, resultant_text};
 
 use crate::texts::{put_by_group, put_end, put_fixed_name, put_kind, put_six_values};
-use chains::frames::Reached;
 use facts::kinds::group_of;
-use model::{Group, Name, System};
-use pose::rotation::shown_of;
+use model::{Group, Name, System, Turns, Vec3};
 use print::{put_decimal, put_name, put_text};
 
 // ---- names
@@ -85,24 +82,32 @@ pub fn put_enabled(out: &mut [u8], at: usize, g: Group, place: u8, s: System) ->
 
 // ---- KLT?
 
-// The pose that a walk reached, as it is shown, and the walk's steps.
-pub fn put_pose(out: &mut [u8], at: usize, r: Reached) -> usize
-    requires { Within reach r.at × (at + length (pose_text r.at (shown (walk_of r).pose.rot) r.steps) ≤ length out.old) }
-    ensures { Wrote (pose_text r.at (shown (walk_of r).pose.rot) r.steps) out.old at out.new result }
+// A pose by its offset and shown triple, and steps.
+pub fn put_pose(out: &mut [u8], at: usize, t: Vec3, shown: Turns, steps: u8) -> usize
+    requires { Within reach t × (turns_fine shown ≡ true) × (at + length (pose_text t shown steps) ≤ length out.old) }
+    ensures { Wrote (pose_text t shown steps) out.old at out.new result }
 {
-    let a = put_six_values(out, at, r.at, shown_of(r.rot));
+    let a = put_six_values(out, at, t, shown);
     let b = put_text(out, a, b" Steps=");
-    put_decimal(out, b, r.steps as u64)
+    put_decimal(out, b, steps as u64)
 }
 
-// The line of a user system and what its walk reached, with the end of its chain.
-pub fn put_resultant(out: &mut [u8], at: usize, name: Name, g: Group, r: Reached) -> usize
-    requires { Reachable name r × (at + length (reached_text (bytes_of name) g (walk_of r)) ≤ length out.old) }
-    ensures { Wrote (reached_text (bytes_of name) g (walk_of r)) out.old at out.new result }
+// The line of a user system, with the end of its chain.
+pub fn put_resultant(
+    out: &mut [u8],
+    at: usize,
+    name: Name,
+    g: Group,
+    t: Vec3,
+    shown: Turns,
+    steps: u8,
+) -> usize
+    requires { (name.len ≤ name_limit) × Within reach t × (turns_fine shown ≡ true) × (at + length (resultant_text (bytes_of name) (of_group g).end t shown steps) ≤ length out.old) }
+    ensures { Wrote (resultant_text (bytes_of name) (of_group g).end t shown steps) out.old at out.new result }
 {
     let a = put_text(out, at, b"Name=");
     let b = put_name(out, a, name);
     let c = put_text(out, b, b" EndCoordinateSystem=");
     let d = put_end(out, c, g);
-    put_pose(out, d, r)
+    put_pose(out, d, t, shown, steps)
 }

@@ -15,6 +15,7 @@ use chains::frames::{Reached, frames_of, reach, undone, unmoved};
 use chains::links::links_of;
 use facts::limits::MAX_SYSTEMS;
 use model::{Group, Memory, Name};
+use pose::rotation::shown_of;
 use print::{put_byte, put_text};
 
 // The line of the system at one place of the group, as it is seen from the one at another.
@@ -30,11 +31,12 @@ fn put_relative(
     requires { Seeable place name from end r × (length (relative_text g place name from end (walk_of r)) ≤ length out.old) }
     ensures { Wrote (relative_text g place name from end (walk_of r)) out.old 0 out.new result }
 {
+    let shown = shown_of(r.rot);
     let a = put_text(out, 0, b"Name=");
     let b = put_system_name(out, a, g, place, name);
     let c = put_text(out, b, b" EndCoordinateSystem=");
     let d = put_system_name(out, c, g, from, end);
-    put_pose(out, d, r)
+    put_pose(out, d, r.at, shown, r.steps)
 }
 
 // The walk from the second place, undone, and the walk from the first that goes on from there: the first, seen from the second.

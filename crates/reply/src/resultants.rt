@@ -1,20 +1,23 @@
 // KLT?: resultants, by the walk along the links of a memory laid flat once.
-ghost use Rattle.std.specs.Prelude.{◌∷◌, [], ◌≤◌, length};
+ghost use Rattle.std.specs.Prelude.{◌∷◌, [], ◌+◌, ◌≤◌, length};
 ghost use Rattle.model.specs.Limits.{buffer_limit};
-ghost use Rattle.model.specs.Stored.{systems_of, memory_of, FineMemory};
+ghost use Rattle.model.specs.Stored.{bytes_of, systems_of, memory_of, FineMemory};
 ghost use Rattle.model.specs.Request.{resultants};
 ghost use Rattle.model.specs.Reply.{listing, resultant_line, listed};
+ghost use Rattle.print.specs.Over.{Wrote};
+ghost use Rattle.chains.specs.Walk.{walk_of};
 ghost use Rattle.reply.specs.Lines.{Replied};
-ghost use Rattle.reply.specs.Reached.{ref_at};
+ghost use Rattle.reply.specs.Reached.{Reachable, reached_text, ref_at};
 
 use crate::line::put_resultant;
 use crate::texts::put_by_group;
 use crate::{put_fixed, slot};
-use chains::frames::{frames_of, reach, unmoved};
+use chains::frames::{Reached, frames_of, reach, unmoved};
 use chains::links::links_of;
 use facts::kinds::group_of;
 use facts::limits::MAX_SYSTEMS;
-use model::{Group, Memory};
+use model::{Group, Memory, Name};
+use pose::rotation::shown_of;
 use print::{put_byte, put_text};
 
 // The lines of the fixed systems.
@@ -26,6 +29,15 @@ const OF_BASE: &[u8] =
 
 const OF_LEVELLING: &[u8] =
     b"Name=PI_LEVELLING EndCoordinateSystem=HEXAPOD X=0.000000 Y=0.000000 Z=0.000000 U=0.000000 V=0.000000 W=0.000000 Steps=0";
+
+// The line of a user system and what its walk reached.
+fn put_reached(out: &mut [u8], at: usize, name: Name, g: Group, r: Reached) -> usize
+    requires { Reachable name r × (at + length (reached_text (bytes_of name) g (walk_of r)) ≤ length out.old) }
+    ensures { Wrote (reached_text (bytes_of name) g (walk_of r)) out.old at out.new result }
+{
+    let shown = shown_of(r.rot);
+    put_resultant(out, at, name, g, r.at, shown, r.steps)
+}
 
 // Where the walk from system i can stop: at its predecessor, if that one comes first in the list and so has been reached; else at the fixed system.
 fn reached_before(pred: usize, i: usize) -> usize
@@ -55,7 +67,7 @@ pub fn resultants(m: Memory, reply: &mut [u8]) -> usize
         known[i + 1] = r;
         let part = &mut reply[at..];
         let a = put_text(part, 0, b" \n");
-        at += put_resultant(part, a, s.name, group_of(s.kind), r);
+        at += put_reached(part, a, s.name, group_of(s.kind), r);
     }
     put_byte(reply, at, b'\n')
 }
@@ -84,6 +96,6 @@ pub fn resultant_at(m: Memory, g: Group, place: u8, reply: &mut [u8]) -> usize
         place as usize,
         MAX_SYSTEMS,
     );
-    let at = put_resultant(reply, 0, s.name, group_of(s.kind), r);
+    let at = put_reached(reply, 0, s.name, group_of(s.kind), r);
     put_byte(reply, at, b'\n')
 }

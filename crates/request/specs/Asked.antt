@@ -59,7 +59,7 @@ pub record Says (r : Result Request Refusal) (reading : model.Reading) : Type 0 
 
 -- [Errors 4 to 6] the number of a refused line is the one that the ladder gives its reading, in every state
 abbrev pub SameNumber : Type 0
-SameNumber = (st : State) (reading : model.Reading) → (reading_told reading).value ≡ none → first (reading_ladder st reading) ≡ (reading_told reading).number
+SameNumber = (st : State) (r : Result Request Refusal) (reading : model.Reading) → Says r reading → (request_told r).value ≡ none → first (reading_ladder st reading) ≡ (request_told r).number
 
 -- ---- requests without values
 

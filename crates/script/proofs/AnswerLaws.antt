@@ -9,7 +9,6 @@ use Rattle.facts.specs.declared.refusals.Refusal.{Refusal}
 use Rattle.facts.specs.declared.refusals.Refusal.TheVariants.{IllFormed, Short, Unreadable, Unknown, Malformed, Beyond, Absent, Reserved, Locked, OtherType, InUse, Ring, Full, NoImage, Aslant, Needed}
 use Rattle.facts.specs.Refusals.{outcome}
 use Rattle.chains.specs.declared.links.Search.{Search}
-use Rattle.engine.specs.Answers.{written_by}
 use Rattle.machine.specs.Calls.{usage_of}
 use Rattle.model.proofs.Digits.{decimal_short}
 use Rattle.script.specs.Answer.{head, said, usage_text, complaint, beside}

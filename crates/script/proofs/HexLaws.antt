@@ -1,9 +1,7 @@
 -- Laws of pairs of digits, read and written.
-use Rattle.std.proofs.Common.{◌≡◌, ℕ, suc, ◌+◌, ◌*◌, ◌/◌, ◌%◌, ◌<◌, ◌≤◌, Bool, true, false, cond, ◌&&◌, List, [], ◌∷◌, length, get_or, drop, set, sym, refl, ap, ◌∙◌, add-one, arith, drop_of_length-le, drop-cons, length-set, lt-ltb, ltb-true}
-use Rattle.std.specs.Prelude.{Option, Some, None, IfSome, SomeIff}
-use Rattle.std.specs.Char as char
+use Rattle.std.proofs.Common.{◌≡◌, ℕ, suc, ◌+◌, ◌*◌, ◌/◌, ◌%◌, ◌<◌, ◌≤◌, Bool, true, false, cond, ◌&&◌, List, [], ◌∷◌, length, get_or, drop, set, sym, refl, ap, ◌∙◌, add-one, arith, drop_of_length-le, drop-cons, length-set, ltb-true}
+use Rattle.std.specs.Prelude.{Option, Some, None, IfSome}
 use Rattle.std.proofs.lemmas.List.{nil_from_length}
-use Rattle.std.proofs.lemmas.Bool.Decides.{nat_tests}
 use mathlib.Core.Option.{none, some}
 use Rattle.print.specs.Over.{over}
 use Rattle.print.proofs.Laws.{length_over, over_first}
@@ -11,20 +9,6 @@ use Rattle.script.specs.Told.{told_first}
 use Rattle.script.specs.Hex.{digit_value, digit?, digit_read, pair_value, hex?, pairs_read, unhexed, Decodes, glyph, hexed}
 
 -- ---- a digit
-
--- what std counts a digit for, up to 16
-digits_same : (b : ℕ) → (char.digit_value b < 16 → digit_value b ≡ char.digit_value b) × (16 ≤ char.digit_value b → digit_value b ≡ 16)
-unfolding digit_value
-digits_same b = (λ h. grind (arith, nat_tests), λ h. grind (arith, nat_tests))
-
-pub digit_from_char : (b : ℕ) (r : Option ℕ) → SomeIff r (char.digit_value b < 16) (char.digit_value b) → r ≡ digit_read b
-digit_from_char b None h =
-    let e : digit_value b ≡ 16 = (digits_same b).1 (omega (arith, h)) in
-    rw e
-digit_from_char b (Some d) h =
-    let e : digit_value b ≡ d = (digits_same b).0 h.0 ∙ sym h.1 in
-    let g : digit_value b < 16 = omega (arith, h.0, h.1) in
-    rw (lt-ltb (digit_value b) 16 g) (ap Some (sym e))
 
 -- what was read of a digit, or not
 pub a_digit : (b d : ℕ) → Some d ≡ digit_read b → (digit? b ≡ true) × (d ≡ digit_value b) × (d < 16)
@@ -53,12 +37,11 @@ pub record Left (h before rest : List ℕ) (i : ℕ) (out : List ℕ) : Type 0 w
 pub left_start : (h before : List ℕ) → Left h before h 0 before
 left_start h before = record { hex = refl; bytes = refl; count = omega arith; long = omega arith; room = refl }
 
--- the next piece of up to two bytes
-pub two : (p : List ℕ) → length p ≡ 2 → p ≡ get_or p 0 0 ∷ get_or p 1 0 ∷ []
-two [] h = absurd (omega arith)
-two (a ∷ []) h = absurd (omega arith)
-two (a ∷ b ∷ []) h = refl
-two (a ∷ b ∷ x ∷ p) h = absurd (omega arith)
+-- the two bytes at a place
+pub two : (l : List ℕ) (i : ℕ) → i < length l / 2 → drop (2 * i) l ≡ get_or l (2 * i) 0 ∷ get_or l (2 * i + 1) 0 ∷ drop (2 * (i + 1)) l
+two l i h =
+    let e : 2 * (i + 1) ≡ suc (suc (2 * i)) = omega arith in
+    rw (add-one (2 * i), e) (drop-cons l (2 * i) 0 (omega arith) ∙ ap (λ (t : List ℕ). get_or l (2 * i) 0 ∷ t) (drop-cons l (suc (2 * i)) 0 (omega arith)))
 
 one : (p : List ℕ) → length p ≡ 1 → p ≡ get_or p 0 0 ∷ []
 one [] h = absurd (omega arith)

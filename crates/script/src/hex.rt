@@ -3,13 +3,23 @@ ghost use Rattle.std.specs.Prelude.{◌≡◌, ◌+◌, ◌*◌, ◌<◌, ◌≤
 ghost use Rattle.print.specs.Over.{Wrote};
 ghost use Rattle.script.specs.Hex.{digit_read, Decodes, glyph, hexed};
 
-// What a digit counts for, in either case.
-#[tactic(auto, using(crate::proofs::HexLaws::digit_from_char))]
-fn digit_value(b: u8) -> Option<u8>
+use text::words::between;
+
+// What a digit counts for, in either case. (By ranges, and the pairs below by their index: `to_digit` and pieces of two took half as long again.)
+#[tactic(auto, unfolding(crate::specs::Hex::digit_value))]
+pub fn digit_value(b: u8) -> Option<u8>
     ensures { result ≡ digit_read b }
 {
-    let digit = char::from(b).to_digit(16)?;
-    Some(digit as u8)
+    if b.is_ascii_digit() {
+        return Some(b - b'0');
+    }
+    if between(b'a', b'f', b) {
+        return Some(b - b'a' + 10);
+    }
+    if between(b'A', b'F', b) {
+        return Some(b - b'A' + 10);
+    }
+    None
 }
 
 // The bytes that a text spells, to the front of the lent buffer, up to the first pair that is none; and how many they are, if all of it is pairs.
@@ -17,13 +27,14 @@ pub fn decode(text: &[u8], out: &mut [u8]) -> Option<usize>
     requires { length text.now ≤ 2 * length out.old }
     ensures { Decodes text.now out.old result out.new }
 {
-    for (i, pair) in text.chunks(2).enumerate() {
-        let [high, low] = pair else {
-            return None;
-        };
-        out[i] = digit_value(*high)? * 16 + digit_value(*low)?;
+    let pairs = text.len() / 2;
+    for i in 0..pairs {
+        out[i] = digit_value(text[2 * i])? * 16 + digit_value(text[2 * i + 1])?;
     }
-    Some(text.len() / 2)
+    if 2 * pairs != text.len() {
+        return None;
+    }
+    Some(pairs)
 }
 
 fn digit_of(d: u8) -> u8

@@ -2,7 +2,7 @@
 use Prim.Native.Nat.{ℕ, ◌≤◌, ◌<◌}
 use mathlib.Core.Path.{◌≡◌, refl, sym, ap, ◌∙◌}
 use mathlib.Core.List.{List}
-use mathlib.Core.Bool.{Bool, true, false, cond, ◌&&◌}
+use mathlib.Core.Bool.{Bool, true, false, cond, not, ◌&&◌}
 use mathlib.Core.Logic.{⊎_elim}
 use native.Mathlib.Omega.{arith}
 use borrow.Author.Tests.{eqb-true, eqb-false}
@@ -15,7 +15,6 @@ use Rattle.model.proofs.Digits.{decimal_short}
 use Rattle.reply.proofs.ListLaws.{replied}
 use Rattle.model.specs.declared.State.{State as StoredState}
 use Rattle.model.specs.Limits.{buffer_limit}
-use Rattle.model.specs.Memory.{Memory}
 use Rattle.model.specs.Request.{reading}
 use Rattle.model.specs.Machine.{Outcome, stepped, written}
 use Rattle.model.specs.Checklist.{asks_to_save}
@@ -23,13 +22,11 @@ use Rattle.model.specs.PowerSwitch.{saves}
 use Rattle.model.specs.Trace.{refusal_text, printed}
 use Rattle.model.specs.Stored.{FineState, shaped, memory_of, state_of}
 use Rattle.std.specs.Prelude.{Some, None, Result, Ok, Err}
-use Rattle.model.proofs.Basics.{either, and_false}
+use Rattle.model.proofs.Basics.{either}
 use Rattle.model.proofs.Histories.Kept.{well_formed_kept}
-use Rattle.commands.specs.Done.{saving_by, Doable, Applied}
+use Rattle.commands.specs.Done.{saving, saving_by, Doable, Applied}
 use Rattle.engine.specs.declared.answer.Step.{Step}
 use Rattle.engine.specs.Taken.{Takes, deed_of, count_of, settled_by, outcome_by}
-use Rattle.commands.specs.declared.changed.Deed.{Deed}
-use Rattle.commands.specs.Done.{settle, settles}
 use Rattle.engine.proofs.Taking.{can_settled, saves_settled}
 use Rattle.facts.specs.declared.refusals.Refusal.{Refusal}
 use Rattle.facts.specs.Refusals.{number_of}
@@ -114,22 +111,19 @@ module _ (s : StoredState) (fine : FineState s) (line b : List ℕ) (long : buff
 
 -- ---- what a settled line does, and what is due behind it
 
-cond_same : (b : Bool) → ◌≡◌ {A = ℕ} (cond b 0 0) 0
-cond_same true = refl
-cond_same false = refl
-
-reason_told : (b : Bool) (why : Refusal) → reason_number (cond b (Some why) None) ≡ cond b (number_of why) 0
-reason_told true why = refl
-reason_told false why = refl
+reason_told : (b : Bool) (n : ℕ) → reason_number (cond (b && not (eqb n 0)) (Some n) None) ≡ cond b n 0
+reason_told true n = ⊎_elim (λ e. rw e (sym (eqb-true n 0 e))) (λ e. rw e refl) (either (eqb n 0))
+reason_told false n = refl
 
 module _ (k : StoredManner) where
   due_stores : (settled : Result Step Refusal) → (due_by k settled).store ≡ k.storing && saving_by (deed_of settled)
+  unfolding saving
   due_stores (Ok r) = refl
-  due_stores (Err why) = sym (and_false k.storing)
+  due_stores (Err why) = refl
 
   due_explains : (settled : Result Step Refusal) → reason_number (due_by k settled).reason ≡ cond k.explaining (told settled) 0
-  due_explains (Ok r) = sym (cond_same k.explaining)
-  due_explains (Err why) = reason_told k.explaining why
+  due_explains (Ok r) = reason_told k.explaining 0
+  due_explains (Err why) = reason_told k.explaining (number_of why)
 
 -- the same where the step was taken: it is settled and counted, it is said, and done
 module _ (k : StoredManner) (s : StoredState) (t : Tally) (fine : FineState s) (line b : List ℕ) (long : buffer_limit ≤ length b) (decided : Result Step Refusal) (c : List ℕ)

@@ -7,7 +7,6 @@ use native.Mathlib.Omega.{arith}
 use native.Mathlib.Decide.{dec_lt}
 use mathlib.Core.Bool.{true, false, ◌||◌}
 use Rattle.std.specs.Prelude.{Option, Some, None, is_some}
-use Rattle.facts.specs.declared.refusals.Refusal.{Refusal}
 use lib.ListN.{length, take, drop, length-take}
 use lib.Seq.{take_all}
 use Rattle.model.specs.declared.State.{State as StoredState}
@@ -59,9 +58,9 @@ fed_as p q = λ i. record { held = p i; output = q i }
 pub not_due : (d : Due) → d.store || is_some d.reason ≡ false → d ≡ nothing
 not_due d e = let p = or_false d.store (is_some d.reason) e in λ i. record { store = p.0 i; reason = no_reason d.reason p.1 i }
   where
-    no_reason : (r : Option Refusal) → is_some r ≡ false → r ≡ None
+    no_reason : (r : Option ℕ) → is_some r ≡ false → r ≡ None
     no_reason None h = refl
-    no_reason (Some why) h = true_false h
+    no_reason (Some n) h = true_false h
 
 pub some_due : (d : Due) → d.store || is_some d.reason ≡ true → d ≡ nothing → ⊥
 some_due d e z = true_false (sym e ∙ ap (λ (x : Due). x.store || is_some x.reason) z)

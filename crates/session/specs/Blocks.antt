@@ -1,5 +1,5 @@
 -- What a block of input does to a session that is stored: the definitions of Feed.antt, with the lent buffer.
-use Rattle.std.specs.Prelude.{ℕ, ◌+◌, ◌-◌, ◌≤◌, ◌<◌, ◌≡◌, ◌⊎◌, ◌&&◌, false, cond, List, [], ◌++◌, map, length, take, drop, Option, Some, None, Result, Ok, Err}
+use Rattle.std.specs.Prelude.{ℕ, ◌+◌, ◌-◌, ◌≤◌, ◌<◌, ◌≡◌, ◌⊎◌, ◌&&◌, false, not, cond, eqb, List, [], ◌++◌, map, length, take, drop, Option, Some, None, Result, Ok, Err}
 use Rattle.model.specs.declared.State.{State as StoredState}
 use Rattle.model.specs.Limits.{buffer_limit}
 use Rattle.model.specs.Memory.{State}
@@ -11,6 +11,8 @@ use Rattle.model.specs.Stored.{FineState, state_of}
 use Rattle.facts.specs.declared.refusals.Refusal.{Refusal}
 use Rattle.facts.specs.Refusals.{number_of}
 use Rattle.reply.specs.Lines.{Replied}
+use Rattle.commands.specs.declared.changed.Deed.{Deed}
+use Rattle.commands.specs.declared.changed.Deed.TheVariants.{SetError}
 use Rattle.commands.specs.Done.{saving}
 use Rattle.engine.specs.declared.answer.Step.{Step}
 use Rattle.tally.specs.Counts.{tally_of}
@@ -31,9 +33,9 @@ abbrev pub manner_of : StoredManner → Manner
 manner_of k = manner k.storing k.explaining
 
 -- the number of what is to be explained, 0 of nothing
-abbrev pub reason_number : Option Refusal → ℕ
+abbrev pub reason_number : Option ℕ → ℕ
 reason_number None = 0
-reason_number (Some why) = number_of why
+reason_number (Some n) = n
 
 -- the bytes of answers, and what is due behind them in the state that they left
 abbrev pub with_due : List ℕ → Due → StoredState → List Act
@@ -43,10 +45,14 @@ with_due answers d s = map prints answers ++ due_acts d.store (reason_number d.r
 abbrev pub nothing : Due
 nothing = record { store = false; reason = None }
 
+-- what is due behind a line with this number, of which this deed was decided
+abbrev pub due_with : StoredManner → ℕ → Deed → Due
+due_with k n d = record { store = k.storing && saving d; reason = cond (k.explaining && not (eqb n 0)) (Some n) None }
+
 -- what is due behind a line that was settled
 abbrev pub due_by : StoredManner → Result Step Refusal → Due
-due_by k (Ok r) = record { store = k.storing && saving r.deed; reason = None }
-due_by k (Err why) = record { store = false; reason = cond k.explaining (Some why) None }
+due_by k (Ok r) = due_with k 0 r.deed
+due_by k (Err why) = due_with k (number_of why) (SetError (number_of why))
 
 -- a session that begins
 pub record Begins (s : Session) : Type 0 where

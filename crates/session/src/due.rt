@@ -1,8 +1,8 @@
 // How a session is run, and what is due behind the answers of its lines.
 ghost use Rattle.std.specs.Prelude.{◌≡◌, ◌||◌, is_some};
-ghost use Rattle.session.specs.Blocks.{due_by, nothing};
+ghost use Rattle.session.specs.Blocks.{due_with, due_by, nothing};
 
-use commands::changed::saves;
+use commands::changed::{Deed, saves};
 use engine::answer::Step;
 use facts::refusals::Refusal;
 
@@ -13,11 +13,11 @@ pub struct Manner {
     pub explaining: bool,
 }
 
-// Whether the image of the permanent memory is to be stored, and the refusal whose reason is to be told.
+// Whether the image of the permanent memory is to be stored, and the number whose reason is to be told.
 #[derive(Clone, Copy)]
 pub struct Due {
     pub store: bool,
-    pub reason: Option<Refusal>,
+    pub reason: Option<u8>,
 }
 
 pub fn nothing_due() -> Due
@@ -29,19 +29,23 @@ pub fn nothing_due() -> Due
     }
 }
 
-// What is due behind a line that was settled.
-pub fn due_of(k: Manner, settled: Result<Step, Refusal>) -> Due
+// What is due behind a line with this number, of which this deed was decided.
+pub fn due_of(k: Manner, number: u8, deed: Deed) -> Due
+    ensures { result ≡ due_with k number deed }
+{
+    Due {
+        store: k.storing && saves(deed),
+        reason: (k.explaining && number != 0).then_some(number),
+    }
+}
+
+// What is due behind a line that was settled. What a refused line does is to set the last error.
+pub fn due_behind(k: Manner, settled: Result<Step, Refusal>) -> Due
     ensures { result ≡ due_by k settled }
 {
     match settled {
-        Ok(step) => Due {
-            store: k.storing && saves(step.deed),
-            reason: None,
-        },
-        Err(why) => Due {
-            store: false,
-            reason: k.explaining.then_some(why),
-        },
+        Ok(step) => due_of(k, 0, step.deed),
+        Err(why) => due_of(k, u8::from(why), Deed::SetError(u8::from(why))),
     }
 }
 

@@ -7,8 +7,8 @@ ghost use Rattle.tally.specs.Counts.{tally_of};
 ghost use Rattle.session.specs.Blocks.{Begins, Answers, Feeds, Ends};
 
 use crate::cut::{Kept, keep, nothing_held};
-use crate::due::{Due, Manner, due_of, nothing_due};
-use crate::run::{run_lines, say};
+use crate::due::{Due, Manner, due_behind, nothing_due};
+use crate::run::{run_lines, say_settled};
 use commands::changed::applied;
 use engine::answer::deed_of;
 use engine::line::{decide, settled};
@@ -70,7 +70,7 @@ fn answer_line(k: Manner, s: Session, line: &[u8], out: &mut [u8]) -> Fed
         out,
     );
     let done = settled(before.permanent, decided);
-    let written = say(done, out);
+    let written = say_settled(done, out);
     let state = applied(before, deed_of(done));
     let tally = count(s.tally, number_told(done));
     Fed {
@@ -81,7 +81,7 @@ fn answer_line(k: Manner, s: Session, line: &[u8], out: &mut [u8]) -> Fed
         },
         used: 0,
         written,
-        due: due_of(k, done),
+        due: due_behind(k, done),
     }
 }
 

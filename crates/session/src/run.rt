@@ -3,12 +3,12 @@ ghost use Rattle.std.specs.Prelude.{◌≡◌, ◌≤◌, length};
 ghost use Rattle.model.specs.Limits.{buffer_limit};
 ghost use Rattle.model.specs.Stored.{FineState};
 ghost use Rattle.model.specs.Trace.{refusal_text};
-ghost use Rattle.facts.specs.Refusals.{number_of, outcome};
+ghost use Rattle.facts.specs.Refusals.{outcome};
 ghost use Rattle.reply.specs.Lines.{Replied};
 ghost use Rattle.engine.specs.Taken.{count_of};
 ghost use Rattle.session.specs.Blocks.{Says, Runs};
 
-use crate::due::{Manner, due_of, is_due, nothing_due};
+use crate::due::{Manner, due_behind, is_due, nothing_due};
 use crate::feed::{Fed, Session};
 use commands::changed::Deed;
 use engine::answer::Step;
@@ -24,23 +24,34 @@ use tally::Tally;
 use tally::counting::count_in;
 
 // E and the number of a refusal.
-fn put_refusal(why: Refusal, out: &mut [u8]) -> usize
+fn put_refusal(number: u8, out: &mut [u8]) -> usize
     requires { buffer_limit ≤ length out.old }
-    ensures { Replied (refusal_text (number_of why)) out.old out.new result }
+    ensures { Replied (refusal_text number) out.old out.new result }
 {
     let a = put_text(out, 0, b"E ");
-    let b = put_decimal(out, a, u64::from(u8::from(why)));
+    let b = put_decimal(out, a, u64::from(number));
     put_byte(out, b, b'\n')
 }
 
 // How many bytes an answer has, once E and the number are written where it is a refusal.
-pub fn say(settled: Result<Step, Refusal>, out: &mut [u8]) -> usize
+pub fn say(number: u8, count: usize, out: &mut [u8]) -> usize
+    requires { buffer_limit ≤ length out.old }
+    ensures { Says number count out.old out.new result }
+{
+    if number == 0 {
+        return count;
+    }
+    put_refusal(number, out)
+}
+
+// The same of a line that was settled.
+pub fn say_settled(settled: Result<Step, Refusal>, out: &mut [u8]) -> usize
     requires { buffer_limit ≤ length out.old }
     ensures { Says (outcome settled) (count_of settled) out.old out.new result }
 {
     match settled {
-        Ok(step) => step.length,
-        Err(why) => put_refusal(why, out),
+        Ok(step) => say(0, step.length, out),
+        Err(why) => say(u8::from(why), 0, out),
     }
 }
 
@@ -71,14 +82,14 @@ pub fn run_lines(k: Manner, s: Session, block: &[u8], out: &mut [u8]) -> Fed
         let decided = decide(volatile, position, level, error, line, &mut out[written..]);
         let done = settled(permanent, decided);
         total = count_in(&mut counts, total, number_told(done));
-        due = due_of(k, done);
-        written += say(done, &mut out[written..]);
+        due = due_behind(k, done);
+        written += say_settled(done, &mut out[written..]);
         used = end + 1;
         match done {
             Err(why) => error = u8::from(why),
             Ok(step) => match step.deed {
                 Deed::Keep => {}
-                Deed::ClearError => error = 0,
+                Deed::SetError(n) => error = n,
                 Deed::Put(place, system) => volatile = put_at(volatile, place, system),
                 Deed::Remove(place, _) => volatile = removed_at(volatile, place),
                 Deed::Enable(e) => volatile.enabled = e,

@@ -88,6 +88,9 @@ pub struct Target<'p, 'l> {
     pub lock: Option<&'l File>,
 }
 
+// No lock is held.
+pub const UNLOCKED: Option<&File> = None;
+
 // Whether the lock has stayed with its holder: another program that took it for left behind may have removed it, and where none could be made, another
 // program may have made one since.
 fn is_ours(rt: HostRuntime, to: Target<'_, '_>) -> bool {

@@ -2,7 +2,7 @@ use mathlib.Core.Path.{◌≡◌, ap, ◌∙◌}
 use Rattle.std.specs.Prelude.{Result, Ok}
 use Rattle.facts.specs.declared.refusals.Refusal.{Refusal}
 use Rattle.commands.specs.declared.changed.Deed.{Deed}
-use Rattle.commands.proofs.Deeds.{put_fits, remove_fits, applied_refused, applied_keep, applied_clear, applied_put, applied_remove, applied_enable, applied_level, applied_save, applied_restore, applied_reset}
+use Rattle.commands.proofs.Deeds.{put_fits, remove_fits, applied_refused, applied_keep, applied_error, applied_put, applied_remove, applied_enable, applied_level, applied_save, applied_restore, applied_reset}
 use Rattle.commands.proofs.changed.applied.Goals as goal
 
 decided : {r : Result Deed Refusal} {d e : Deed} → r ≡ Ok d → d ≡ e → r ≡ Ok e
@@ -20,8 +20,8 @@ returns-in-Err c = applied_refused c.in-Err.is c.from.ensures
 pub returns-in-Ok-Keep : goal.returns-in-Ok-Keep
 returns-in-Ok-Keep c = applied_keep (decided c.in-Ok-Keep.is (rw c.in-Ok-Keep.is at c.in-Ok-Keep.field-0-is))
 
-pub returns-in-Ok-ClearError : goal.returns-in-Ok-ClearError
-returns-in-Ok-ClearError c = applied_clear (decided c.in-Ok-ClearError.is (rw c.in-Ok-ClearError.is at c.in-Ok-ClearError.field-0-is))
+pub returns-in-Ok-SetError : goal.returns-in-Ok-SetError
+returns-in-Ok-SetError c = applied_error (decided c.in-Ok-SetError.is (rw c.in-Ok-SetError.is at c.in-Ok-SetError.field-0-is))
 
 pub returns-in-Ok-Put : goal.returns-in-Ok-Put
 returns-in-Ok-Put c = applied_put (decided c.in-Ok-Put.is (rw c.in-Ok-Put.is at c.in-Ok-Put.field-0-is)) c.requires _ (c.put_at-r.ensures.stands_for, c.put_at-r.ensures.shaped)

@@ -12,18 +12,18 @@ use Rattle.commands.proofs.Carried.{decides_handed_on, decides_accepted}
 use Rattle.commands.proofs.systems.enable.Goals as goal
 
 pub returns-in_err-judge_enable : goal.returns-in_err-judge_enable
-returns-in_err-judge_enable c = λ s x y level seen. decides_handed_on s (enable x) _ c.from_residual.result c.from_residual.ensures.1 (c.in_err-judge_enable.ensures s.volatile x y seen (state_of s) level)
+returns-in_err-judge_enable c = λ s x level before tells. decides_handed_on s (enable x) _ c.from_residual.result c.from_residual.ensures.1 (c.in_err-judge_enable.ensures s.volatile x tells (state_of s) level)
 
 pub returns : goal.returns
 unfolding changed done saving settle Fits asks_to_save
 returns c =
     let a = c.args in
-    λ s x y level seen.
-    let number = c.in_ok-judge_enable.ensures s.volatile x y seen (state_of s) level in
+    λ s x level before tells.
+    let number = c.in_ok-judge_enable.ensures s.volatile x tells (state_of s) level in
     let l = systems_of s.volatile in
-    let kind = found_kind (memory_of s.volatile) x a.k.first seen.first in
-    let found = found_is (memory_of s.volatile) x a.k.first seen.first in
-    let enabled = c.enabling-after.ensures l kind ∙ (λ i. enabling (sym level i) (holding l (seen.enabled i)) (ref_or (found i))) in
+    let kind = found_kind (memory_of s.volatile) x a.n tells in
+    let found = found_is (memory_of s.volatile) x a.n tells in
+    let enabled = c.enabling-after.ensures l kind ∙ (λ i. enabling (sym level i) (holding l (sym before i)) (ref_or (found i))) in
     decides_accepted s (enable x) (Enable c.enabling-after.result) number refl
     tt
     (λ i. with_volatile (state_of s) (holding l (enabled i))) refl

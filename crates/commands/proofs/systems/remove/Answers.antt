@@ -23,4 +23,4 @@ returns c =
     let place = place_is m x _ seen.first in
     let at = user_place m x (remove_user (state_of s) x z) in
     let name : (system_of a.k.source).name ≡ x = ap (λ (y : System). y.name) (seen.source ∙ ap (system_at (systems_of s.volatile)) place) ∙ place_name (systems_of s.volatile) x at in
-    decides_removal s x z a.k.first.place a.k.source place name
+    decides_removal s x z a.k.first.place a.k.source place name seen.named

@@ -1,6 +1,8 @@
 -- `carry_out`: each case of the request is the definition's.
+use mathlib.Core.Path.{ap}
+use Rattle.model.specs.declared.Memory.{Memory as StoredMemory}
 use Rattle.model.specs.Checklist.{asks_to_save}
-use Rattle.engine.proofs.Taking.{seen_in, change_taken}
+use Rattle.engine.proofs.Taking.{seen_in, tells_in, change_taken}
 use Rattle.engine.proofs.OneLine.{named_within}
 use Rattle.engine.proofs.line.carry_out.Goals as goal
 
@@ -24,9 +26,6 @@ look-requires-in-Copy c = c.requires.fine_memory.shape
 pub look-requires-in-Remove : goal.look-requires-in-Remove
 look-requires-in-Remove c = c.requires.fine_memory.shape
 
-pub look-requires-in-Enable : goal.look-requires-in-Enable
-look-requires-in-Enable c = c.requires.fine_memory.shape
-
 pub look-requires-in-Locate : goal.look-requires-in-Locate
 look-requires-in-Locate c = c.requires.fine_memory.shape
 
@@ -34,7 +33,7 @@ pub resultant_line-requires : goal.resultant_line-requires
 resultant_line-requires c = record {
   fine_memory = c.requires.fine_memory;
   room = c.requires.room;
-  there = named_within c.args.m _ _ c.subject_of.ensures;
+  there = named_within c.args.m _ _ c.subject_of-in-ListResultant.ensures;
 }
 
 pub relative_line-requires : goal.relative_line-requires
@@ -67,7 +66,7 @@ returns-in-Remove c s volatile position level error = rw c.in-Remove.is (change_
 
 pub returns-in-Enable : goal.returns-in-Enable
 unfolding asks_to_save
-returns-in-Enable c s volatile position level error = rw c.in-Enable.is (change_taken _ (c.enable.ensures s _ _ level (seen_in volatile c.look-in-Enable.ensures)) c.silent-in-Enable.ensures)
+returns-in-Enable c s volatile position level error = rw c.in-Enable.is (change_taken _ (c.enable.ensures s _ level (ap (λ (v : StoredMemory). v.enabled) volatile) (tells_in volatile c.subject_of.ensures)) c.silent-in-Enable.ensures)
 
 pub returns-in-SetLevel : goal.returns-in-SetLevel
 unfolding asks_to_save
@@ -103,7 +102,7 @@ returns-in-ListResultants c s volatile position level error = rw c.in-ListResult
 
 pub returns-in-ListResultant : goal.returns-in-ListResultant
 unfolding asks_to_save
-returns-in-ListResultant c s volatile position level error = rw c.in-ListResultant.is (c.resultant_line.ensures s _ volatile c.subject_of.ensures)
+returns-in-ListResultant c s volatile position level error = rw c.in-ListResultant.is (c.resultant_line.ensures s _ volatile c.subject_of-in-ListResultant.ensures)
 
 pub returns-in-ListRelative : goal.returns-in-ListRelative
 unfolding asks_to_save

@@ -8,6 +8,7 @@ use Rattle.model.specs.Stored.{bytes_of}
 use Rattle.model.specs.declared.Name.{Name}
 use Rattle.chains.specs.declared.frames.Reached.{Reached}
 use Rattle.reply.specs.Types.{Group}
+use Rattle.model.proofs.Poses.Showing.{shown_fine}
 use Rattle.chains.specs.Walk.{walk_of}
 use Rattle.print.proofs.Laws.{wrote_then}
 use Rattle.reply.specs.Lines.{name_text, pose_text, resultant_text}
@@ -33,18 +34,20 @@ put_system_name-d-requires c =
     (c.requires.0.end_fits, omega (arith, long c.args.g c.args.place c.args.name c.args.from c.args.end c.args.r, c.requires.1, c.put_text-c.ensures.place, c.put_system_name-b.ensures.place, c.put_text-a.ensures.place))
 
 pub put_pose-requires : goal.put_pose-requires
-put_pose-requires c = (
-  c.requires.0.near,
-  omega (
-    arith,
-    long c.args.g c.args.place c.args.name c.args.from c.args.end c.args.r,
-    c.requires.1,
-    c.put_system_name-d.ensures.place,
-    c.put_text-c.ensures.place,
-    c.put_system_name-b.ensures.place,
-    c.put_text-a.ensures.place,
-  ),
-)
+put_pose-requires c =
+    rw c.shown_of-shown.ensures (
+      c.requires.0.near,
+      shown_fine c.args.r.rot,
+      omega (
+        arith,
+        long c.args.g c.args.place c.args.name c.args.from c.args.end c.args.r,
+        c.requires.1,
+        c.put_system_name-d.ensures.place,
+        c.put_text-c.ensures.place,
+        c.put_system_name-b.ensures.place,
+        c.put_text-a.ensures.place,
+      ),
+    )
 
 pub returns : goal.returns
 unfolding resultant_text pose_text joined
@@ -52,4 +55,4 @@ returns c =
     wrote_then c.put_text-a.ensures
     (wrote_then c.put_system_name-b.ensures
     (wrote_then c.put_text-c.ensures
-    (wrote_then c.put_system_name-d.ensures c.put_pose.ensures)))
+    (wrote_then c.put_system_name-d.ensures (rw c.shown_of-shown.ensures at c.put_pose.ensures))))

@@ -89,20 +89,20 @@ shown c =
     ap (resultant_line l) (ref_user l c.args.g c.args.place n ∙ ap (λ (i : ℕ). user_ref l (suc i)) (sym c.slot.ensures))
     ∙ rw c.group_of.ensures (reached_line f place below (c.reach-r.ensures.walk (c.unmoved.ensures ∙ walked_fixed _ 0 refl)))
 
-pub put_resultant-at-requires : goal.put_resultant-at-requires
-put_resultant-at-requires c =
+pub put_reached-at-requires : goal.put_reached-at-requires
+put_reached-at-requires c =
     let n = c.if-place-eq0.false in
-    let f = flat (goal.at.put_resultant-at-requires c).After-flat in
+    let f = flat (goal.at.put_reached-at-requires c).After-flat in
     let place : c.args.place ≡ suc c.slot.result = omega (arith, n, c.slot.ensures) in
     let below : c.slot.result < c.args.m.count = omega (arith, n, c.slot.ensures, c.requires.there) in (
       record {
-        name_fits = name_fits c.args.m c.requires.fine_memory.shape (long (goal.at.put_resultant-at-requires c).Start) c.slot.result below;
+        name_fits = name_fits c.args.m c.requires.fine_memory.shape (long (goal.at.put_reached-at-requires c).Start) c.slot.result below;
         near = reached_within f place below (c.reach-r.ensures.walk (c.unmoved.ensures ∙ walked_fixed _ 0 refl));
       },
       omega (
         arith,
-        fits c.args.m c.requires.fine_memory (long (goal.at.put_resultant-at-requires c).Start) c.args.g c.args.place c.requires.there _ c.requires.room,
-        ap length (shown (goal.at.put_resultant-at-requires c).After-group_of),
+        fits c.args.m c.requires.fine_memory (long (goal.at.put_reached-at-requires c).Start) c.args.g c.args.place c.requires.there _ c.requires.room,
+        ap length (shown (goal.at.put_reached-at-requires c).After-group_of),
       ),
     )
 
@@ -112,8 +112,8 @@ put_byte-requires-2 c =
       arith,
       fits c.args.m c.requires.fine_memory (long (goal.at.put_byte-requires-2 c).Start) c.args.g c.args.place c.requires.there _ c.requires.room,
       ap length (shown (goal.at.put_byte-requires-2 c).After-group_of),
-      c.put_resultant-at.ensures.place,
-      c.put_resultant-at.auto.out,
+      c.put_reached-at.ensures.place,
+      c.put_reached-at.auto.out,
     )
 
 pub returns : goal.returns
@@ -121,4 +121,4 @@ unfolding listing
 returns c =
     replied
     (rw length-append (fits c.args.m c.requires.fine_memory (long (goal.at.returns c).Start) c.args.g c.args.place c.requires.there _ c.requires.room))
-    (rw (shown (goal.at.returns c).After-group_of) (wrote_then c.put_resultant-at.ensures c.put_byte-2.ensures))
+    (rw (shown (goal.at.returns c).After-group_of) (wrote_then c.put_reached-at.ensures c.put_byte-2.ensures))

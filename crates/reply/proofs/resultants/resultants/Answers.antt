@@ -91,32 +91,32 @@ line_is c =
     } in
     rw (c.group_of.ensures, lent_at m c.requires.fine_memory.shape f.long i h) (reached_line f (add-one i) h (c.reach-r.ensures.walk (c.loop-i.invariant.1.each _ c.reached_before-stop.ensures)))
 
-pub put_resultant-at-requires : goal.put_resultant-at-requires
-put_resultant-at-requires c =
+pub put_reached-at-requires : goal.put_reached-at-requires
+put_reached-at-requires c =
     let m = c.args.m in
     let shape = c.requires.fine_memory.shape in
-    let full = long (goal.at.put_resultant-at-requires c).Start in
+    let full = long (goal.at.put_reached-at-requires c).Start in
     let i = c.loop-i.i in
-    let h = below (goal.at.put_resultant-at-requires c).In-loop-i in (
+    let h = below (goal.at.put_reached-at-requires c).In-loop-i in (
       record {
         name_fits = rw (lent_at m shape full i h) (name_fits m shape full i h);
-        near = reached_within (flat (goal.at.put_resultant-at-requires c).After-flat-ps) (add-one i) h (c.reach-r.ensures.walk (c.loop-i.invariant.1.each _ c.reached_before-stop.ensures));
+        near = reached_within (flat (goal.at.put_reached-at-requires c).After-flat-ps) (add-one i) h (c.reach-r.ensures.walk (c.loop-i.invariant.1.each _ c.reached_before-stop.ensures));
       },
-      omega (arith, going_room c.loop-i.invariant.0 h, ap length (line_is (goal.at.put_resultant-at-requires c).After-group_of), c.put_text-a.ensures.place, c.put_text-a.auto.out),
+      omega (arith, going_room c.loop-i.invariant.0 h, ap length (line_is (goal.at.put_reached-at-requires c).After-group_of), c.put_text-a.ensures.place, c.put_text-a.auto.out),
     )
 
 pub overflow_add-at : goal.overflow_add-at
 overflow_add-at c =
-    let w : Wrote (further (line_at resultant_line c.args.m (suc c.loop-i.i))) (take (length c.loop-i.reply - c.loop-i.at) (drop c.loop-i.at c.loop-i.reply)) 0 c.put_resultant-at.new.out c.put_resultant-at.result =
-    rw (line_is (goal.at.overflow_add-at c).After-group_of) (wrote_then c.put_text-a.ensures c.put_resultant-at.ensures) in
+    let w : Wrote (further (line_at resultant_line c.args.m (suc c.loop-i.i))) (take (length c.loop-i.reply - c.loop-i.at) (drop c.loop-i.at c.loop-i.reply)) 0 c.put_reached-at.new.out c.put_reached-at.result =
+    rw (line_is (goal.at.overflow_add-at c).After-group_of) (wrote_then c.put_text-a.ensures c.put_reached-at.ensures) in
     let n = going_on c.loop-i.invariant.0 (below (goal.at.overflow_add-at c).In-loop-i) w.place in
     record { fits = grind (arith, n) }
 
 pub loop-i-preserved : goal.loop-i-preserved
 loop-i-preserved c =
     let h = below (goal.at.loop-i-preserved c).In-loop-i in
-    let w : Wrote (further (line_at resultant_line c.args.m (suc c.loop-i.i))) (take (length c.loop-i.reply - c.loop-i.at) (drop c.loop-i.at c.loop-i.reply)) 0 c.put_resultant-at.new.out c.put_resultant-at.result =
-    rw (line_is (goal.at.loop-i-preserved c).After-group_of) (wrote_then c.put_text-a.ensures c.put_resultant-at.ensures) in (
+    let w : Wrote (further (line_at resultant_line c.args.m (suc c.loop-i.i))) (take (length c.loop-i.reply - c.loop-i.at) (drop c.loop-i.at c.loop-i.reply)) 0 c.put_reached-at.new.out c.put_reached-at.result =
+    rw (line_is (goal.at.loop-i-preserved c).After-group_of) (wrote_then c.put_text-a.ensures c.put_reached-at.ensures) in (
       going_turn c.loop-i.invariant.0 h w,
       kept_on c.loop-i.invariant.1 (omega (arith, held (flat (goal.at.loop-i-preserved c).After-flat-ps), h)) (c.reach-r.ensures.walk (c.loop-i.invariant.1.each _ c.reached_before-stop.ensures)),
     )

@@ -27,11 +27,11 @@ returns c =
     let a = c.args in
     let s = a.s.state in
     let t = tally_of a.s.tally in
-    let kept : length c.say-written.new.out ≡ length c.args.out.now = search rules in
+    let kept : length c.say_settled-written.new.out ≡ length c.args.out.now = search rules in
     record {
       answered = answers_taken a.k s t c.requires.fine_state a.line.now a.out.now c.requires.buffer_limit_in_bounds c.decide-decided.result _
           (c.decide-decided.ensures s refl refl refl refl c.requires.fine_state) c.settled-done.result c.settled-done.ensures
-          _ _ c.say-written.ensures kept _ (c.count-tally.ensures ∙ ap (counted t) c.number_told.ensures) _ c.due_of.ensures
+          _ _ c.say_settled-written.ensures kept _ (c.count-tally.ensures ∙ ap (counted t) c.number_told.ensures) _ c.due_behind.ensures
           (rw c.deed_of.ensures at c.applied-state.ensures);
       held = c.nothing_held.ensures;
     }

@@ -16,7 +16,7 @@ use Rattle.model.proofs.Memories.Fine.{state_of_lem}
 use Rattle.model.proofs.Histories.Tally.{same_sums, counted_sums}
 use Rattle.facts.specs.declared.refusals.Refusal.{Refusal}
 use Rattle.commands.specs.declared.changed.Deed.{Deed}
-use Rattle.commands.proofs.Deeds.{put_fits, remove_fits, applied_refused, applied_keep, applied_clear, applied_put, applied_remove, applied_enable, applied_level, applied_save, applied_restore, applied_reset}
+use Rattle.commands.proofs.Deeds.{put_fits, remove_fits, applied_refused, applied_keep, applied_error, applied_put, applied_remove, applied_enable, applied_level, applied_save, applied_restore, applied_reset}
 use Rattle.engine.specs.declared.answer.Step.{Step}
 use Rattle.engine.specs.Taken.{deed_of}
 use Rattle.engine.proofs.Views.{fine_volatile}
@@ -29,7 +29,7 @@ use Rattle.session.proofs.Rest.{with_rest}
 use Rattle.session.proofs.Running.{run_start, run_idle, not_due, some_due}
 use Rattle.session.proofs.Turning.{Turned, turned}
 use Rattle.session.proofs.run.run_lines.Invariants.{state_with}
-use Rattle.session.proofs.run.run_lines.Goals.{After-say-written, else-loop-out-test, then-loop-out-test+then-is_due-end}
+use Rattle.session.proofs.run.run_lines.Goals.{After-say_settled-written, else-loop-out-test, then-loop-out-test+then-is_due-end}
 use Rattle.session.proofs.run.run_lines.Goals as goal
 
 pub loop-out-init : goal.loop-out-init
@@ -63,12 +63,12 @@ count_in-total-requires-clause-sums c = same_sums c.loop-out.invariant.run.tally
 -- ---- its turn
 
 -- what was settled is counted and said
-said : (c : After-say-written) →
+said : (c : After-say_settled-written) →
     let l = c.loop-out in
     let a = c.args in
     Turned a.k (state_of a.s.state) (tally_of a.s.tally) a.block.now a.out.now
-    (with_rest (with_rest l.out l.written c.decide-decided.new.reply) l.written c.say-written.new.out)
-    (state_with l.volatile l.permanent a.s.state.position l.level l.error) (tally_with c.count_in-total.new.counts c.count_in-total.result) c.settled-done.result (c.line_end-end.result + 1) (l.written + c.say-written.result) c.due_of-due.result
+    (with_rest (with_rest l.out l.written c.decide-decided.new.reply) l.written c.say_settled-written.new.out)
+    (state_with l.volatile l.permanent a.s.state.position l.level l.error) (tally_with c.count_in-total.new.counts c.count_in-total.result) c.settled-done.result (c.line_end-end.result + 1) (l.written + c.say_settled-written.result) c.due_behind-due.result
 said c =
     let l = c.loop-out in
     let a = c.args in
@@ -86,16 +86,16 @@ said c =
     decided.result _ (decided.ensures s refl refl refl refl run.fine) decided.auto.reply
     c.settled-done.result c.settled-done.ensures
     (tally_with c.count_in-total.new.counts c.count_in-total.result) (c.count_in-total.ensures ∙ ap (counted t) c.number_told.ensures)
-    _ _ c.say-written.ensures c.say-written.auto.out _ c.due_of-due.ensures
+    _ _ c.say_settled-written.ensures c.say_settled-written.auto.out _ c.due_behind-due.ensures
 
 -- every number has its place still
-stay : (c : After-say-written) → length c.count_in-total.new.counts ≡ numbers
+stay : (c : After-say_settled-written) → length c.count_in-total.new.counts ≡ numbers
 stay c = search rules
 
 pub overflow_add-written : goal.overflow_add-written
 overflow_add-written c =
     let long : length c.args.out.now < 2 ^ 64 = search rules in
-    record { fits = omega (arith, (said (goal.at.overflow_add-written c).After-say-written).room, long) }
+    record { fits = omega (arith, (said (goal.at.overflow_add-written c).After-say_settled-written).room, long) }
 
 pub overflow_add-used : goal.overflow_add-used
 overflow_add-used c =
@@ -110,51 +110,51 @@ did : {r : Result Step Refusal} {step : Step} {d : Deed} → r ≡ Ok step → s
 did e f = ap deed_of e ∙ ap (λ (d : Deed). Ok d) f
 
 pub put_at-volatile-requires : goal.put_at-volatile-requires
-put_at-volatile-requires c = let fits = put_fits (said (goal.at.put_at-volatile-requires c).After-say-written).doable (did c.in-Ok.is c.in-Put.is) in (fits.0, fits.1)
+put_at-volatile-requires c = let fits = put_fits (said (goal.at.put_at-volatile-requires c).After-say_settled-written).doable (did c.in-Ok.is c.in-Put.is) in (fits.0, fits.1)
 
 pub removed_at-volatile-requires : goal.removed_at-volatile-requires
-removed_at-volatile-requires c = remove_fits (said (goal.at.removed_at-volatile-requires c).After-say-written).doable (did c.in-Ok.is c.in-Remove.is)
+removed_at-volatile-requires c = remove_fits (said (goal.at.removed_at-volatile-requires c).After-say_settled-written).doable (did c.in-Ok.is c.in-Remove.is)
 
 pub loop-out-preserved-in-Err : goal.loop-out-preserved-in-Err
 loop-out-preserved-in-Err c =
-    let turn = (goal.at.loop-out-preserved-in-Err c).After-say-written in
+    let turn = (goal.at.loop-out-preserved-in-Err c).After-say_settled-written in
     record { run = (said turn).next (applied_refused (ap deed_of c.in-Err.is) c.from-error.ensures); places = stay turn }
 
 pub loop-out-preserved-in-Keep : goal.loop-out-preserved-in-Keep
 loop-out-preserved-in-Keep c =
-    let turn = (goal.at.loop-out-preserved-in-Keep c).After-say-written in record { run = (said turn).next (applied_keep (did c.in-Ok.is c.in-Keep.is)); places = stay turn }
+    let turn = (goal.at.loop-out-preserved-in-Keep c).After-say_settled-written in record { run = (said turn).next (applied_keep (did c.in-Ok.is c.in-Keep.is)); places = stay turn }
 
-pub loop-out-preserved-in-ClearError : goal.loop-out-preserved-in-ClearError
-loop-out-preserved-in-ClearError c =
-    let turn = (goal.at.loop-out-preserved-in-ClearError c).After-say-written in record { run = (said turn).next (applied_clear (did c.in-Ok.is c.in-ClearError.is)); places = stay turn }
+pub loop-out-preserved-in-SetError : goal.loop-out-preserved-in-SetError
+loop-out-preserved-in-SetError c =
+    let turn = (goal.at.loop-out-preserved-in-SetError c).After-say_settled-written in record { run = (said turn).next (applied_error (did c.in-Ok.is c.in-SetError.is)); places = stay turn }
 
 pub loop-out-preserved-in-Put : goal.loop-out-preserved-in-Put
 loop-out-preserved-in-Put c =
-    let turn = (goal.at.loop-out-preserved-in-Put c).After-say-written in record { run = (said turn).next (applied_put (did c.in-Ok.is c.in-Put.is) (said turn).doable _ (c.put_at-volatile.ensures.stands_for, c.put_at-volatile.ensures.shaped)); places = stay turn }
+    let turn = (goal.at.loop-out-preserved-in-Put c).After-say_settled-written in record { run = (said turn).next (applied_put (did c.in-Ok.is c.in-Put.is) (said turn).doable _ (c.put_at-volatile.ensures.stands_for, c.put_at-volatile.ensures.shaped)); places = stay turn }
 
 pub loop-out-preserved-in-Remove : goal.loop-out-preserved-in-Remove
 loop-out-preserved-in-Remove c =
-    let turn = (goal.at.loop-out-preserved-in-Remove c).After-say-written in record { run = (said turn).next (applied_remove (did c.in-Ok.is c.in-Remove.is) _ (c.removed_at-volatile.ensures.stands_for, c.removed_at-volatile.ensures.shaped)); places = stay turn }
+    let turn = (goal.at.loop-out-preserved-in-Remove c).After-say_settled-written in record { run = (said turn).next (applied_remove (did c.in-Ok.is c.in-Remove.is) _ (c.removed_at-volatile.ensures.stands_for, c.removed_at-volatile.ensures.shaped)); places = stay turn }
 
 pub loop-out-preserved-in-Enable : goal.loop-out-preserved-in-Enable
 loop-out-preserved-in-Enable c =
-    let turn = (goal.at.loop-out-preserved-in-Enable c).After-say-written in record { run = (said turn).next (applied_enable (did c.in-Ok.is c.in-Enable.is)); places = stay turn }
+    let turn = (goal.at.loop-out-preserved-in-Enable c).After-say_settled-written in record { run = (said turn).next (applied_enable (did c.in-Ok.is c.in-Enable.is)); places = stay turn }
 
 pub loop-out-preserved-in-SetLevel : goal.loop-out-preserved-in-SetLevel
 loop-out-preserved-in-SetLevel c =
-    let turn = (goal.at.loop-out-preserved-in-SetLevel c).After-say-written in record { run = (said turn).next (applied_level (did c.in-Ok.is c.in-SetLevel.is)); places = stay turn }
+    let turn = (goal.at.loop-out-preserved-in-SetLevel c).After-say_settled-written in record { run = (said turn).next (applied_level (did c.in-Ok.is c.in-SetLevel.is)); places = stay turn }
 
 pub loop-out-preserved-in-Save : goal.loop-out-preserved-in-Save
 loop-out-preserved-in-Save c =
-    let turn = (goal.at.loop-out-preserved-in-Save c).After-say-written in record { run = (said turn).next (applied_save (did c.in-Ok.is c.in-Save.is)); places = stay turn }
+    let turn = (goal.at.loop-out-preserved-in-Save c).After-say_settled-written in record { run = (said turn).next (applied_save (did c.in-Ok.is c.in-Save.is)); places = stay turn }
 
 pub loop-out-preserved-in-Restore : goal.loop-out-preserved-in-Restore
 loop-out-preserved-in-Restore c =
-    let turn = (goal.at.loop-out-preserved-in-Restore c).After-say-written in record { run = (said turn).next (applied_restore (did c.in-Ok.is c.in-Restore.is)); places = stay turn }
+    let turn = (goal.at.loop-out-preserved-in-Restore c).After-say_settled-written in record { run = (said turn).next (applied_restore (did c.in-Ok.is c.in-Restore.is)); places = stay turn }
 
 pub loop-out-preserved : goal.loop-out-preserved
 loop-out-preserved c =
-    let turn = (goal.at.loop-out-preserved c).After-say-written in record { run = (said turn).next (applied_reset (did c.in-Ok.is c.in-Reset.is) _ (c.factory_memory-volatile.ensures.stands_for, c.factory_memory-volatile.ensures.shaped)); places = stay turn }
+    let turn = (goal.at.loop-out-preserved c).After-say_settled-written in record { run = (said turn).next (applied_reset (did c.in-Ok.is c.in-Reset.is) _ (c.factory_memory-volatile.ensures.stands_for, c.factory_memory-volatile.ensures.shaped)); places = stay turn }
 
 -- ---- the end
 
