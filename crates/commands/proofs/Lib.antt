@@ -3,3 +3,4 @@ pub mod Settled
 pub mod Carried
 pub mod Deeds
 pub mod Removal
+pub mod LastError

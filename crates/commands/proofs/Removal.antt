@@ -1,12 +1,12 @@
 -- KRM: what the volatile memory tells, and the number that the permanent one has to say.
-use Prim.Native.Nat.{ℕ}
+use Prim.Native.Nat.{ℕ, ◌<◌, ◌≤◌}
 use mathlib.Core.Path.{◌≡◌, refl, sym, ap, ◌∙◌}
-use mathlib.Core.Bool.{Bool, true, false, cond}
+use mathlib.Core.Bool.{Bool, true, false, cond, ◌&&◌}
 use mathlib.Core.List.{List, [], ◌∷◌}
 use mathlib.Core.Logic.{⊎_elim}
 use native.Mathlib.Omega.{arith}
 use lib.Dec.{eqb}
-use lib.ListN.{drop}
+use lib.ListN.{length, drop}
 use Rattle.std.specs.Prelude.{Result, Ok}
 use Rattle.model.specs.declared.System.{System as StoredSystem}
 use Rattle.model.specs.declared.State.{State as StoredState}
@@ -27,7 +27,7 @@ use Rattle.model.proofs.Memories.Named.{present_user, user_place, place_within}
 use Rattle.facts.specs.declared.refusals.Refusal.{Refusal}
 use Rattle.commands.specs.declared.changed.Deed.{Deed}
 use Rattle.commands.specs.declared.changed.Deed.TheVariants.{Remove}
-use Rattle.commands.specs.Done.{done, saving, settle, Fits, number_in, outcome_of, Decides}
+use Rattle.commands.specs.Done.{done, saving, saving_by, settle, Fits, number_in, outcome_of, Decides}
 use Rattle.commands.specs.Obeyed.{obeyed}
 use Rattle.commands.specs.Subject.{without_twenty}
 use Rattle.commands.proofs.Carried.{obeyed_refused, obeyed_accepted}
@@ -86,7 +86,7 @@ module _ (s : StoredState) (a : List ℕ) (z : first (without_twenty (change_lad
   abbrev going : Result Deed Refusal
   going = Ok (Remove k x)
 
-  removal_outcome : (b : List ℕ) → outcome_of going st' 0 b ≡ obeyed st' (asks (change (remove a))) b
+  pub removal_outcome : (b : List ℕ) → outcome_of going st' 0 b ≡ obeyed st' (asks (change (remove a))) b
   unfolding done settle changed
   removal_outcome b = ⊎_elim held free (either (name_in_use st'.permanent a))
     where
@@ -98,12 +98,14 @@ module _ (s : StoredState) (a : List ℕ) (z : first (without_twenty (change_lad
           rw (name, u) (ap (λ (q : ℕ). answered (with_volatile st' (removed_at st'.volatile q)) [] b) place
           ∙ sym (obeyed_accepted st' (remove a) 0 (sym (rw u refl) ∙ left_to_permanent st' a z) b refl))
 
+  -- whatever shape it has: its place is a user system's, and nothing is saved
+  pub removal_place : (0 < k) × (k ≤ length (systems_of s.volatile))
+  removal_place = rw place (user_place (memory_of s.volatile) a (remove_user st' a z), place_within (systems_of s.volatile) a)
+
+  pub removal_saves : saving_by going ≡ eqb (number_in going (memory_of s.permanent)) 0 && asks_to_save (asks (change (remove a)))
+  unfolding saving asks_to_save
+  removal_saves = sym (and_false (eqb (number_in going (memory_of s.permanent)) 0))
+
   pub decides_removal : name_shaped x ≡ true → Decides s (remove a) going
-  unfolding Fits saving asks_to_save
-  decides_removal shape =
-      let user = remove_user st' a z in
-      record {
-        outcome = removal_outcome;
-        doable = record { fits = rw place (user_place (memory_of s.volatile) a user, place_within (systems_of s.volatile) a, shape) };
-        saves = sym (and_false (eqb (number_in going (memory_of s.permanent)) 0));
-      }
+  unfolding Fits
+  decides_removal shape = record { outcome = removal_outcome; doable = record { fits = (removal_place.0, removal_place.1, shape) }; saves = removal_saves }

@@ -1,8 +1,9 @@
 -- From what a call decided or a reply's writer left to the step that a line takes.
 use Prim.Native.Nat.{ℕ}
-use mathlib.Core.Path.{◌≡◌, refl, ap, ◌∙◌}
+use mathlib.Core.Path.{◌≡◌, refl, sym, ap, ◌∙◌}
 use mathlib.Core.List.{List}
 use mathlib.Core.Bool.{Bool, true, false, ◌&&◌}
+use mathlib.Core.Logic.{◌⊎◌, inl, inr, ⊎_elim}
 use lib.Dec.{eqb}
 use Rattle.std.specs.Prelude.{Result, Ok, Err, IsErr, IsErrAnd}
 use Rattle.std.specs.Result.{result_unwrap_or}
@@ -12,12 +13,12 @@ use Rattle.model.specs.declared.Memory.{Memory as StoredMemory}
 use Rattle.model.specs.declared.State.{State as StoredState}
 use Rattle.model.specs.Effects.{with_error}
 use Rattle.model.specs.Memory.{Memory, State}
-use Rattle.model.specs.Machine.{Outcome, answered, refused}
+use Rattle.model.specs.Machine.{Outcome, answered, refused, stepped}
 use Rattle.model.specs.Request.{Change, Query, asks, change, list}
 use Rattle.model.specs.Refusals.{first, query_ladder}
 use Rattle.model.specs.Reply.{listed}
 use Rattle.model.specs.Checklist.{asks_to_save}
-use Rattle.model.specs.Stored.{shaped, memory_of, state_of, of_outcome}
+use Rattle.model.specs.Stored.{FineState, shaped, memory_of, state_of, of_outcome}
 use Rattle.reply.specs.Lines.{Replied}
 use Rattle.commands.specs.declared.changed.Deed.{Deed}
 use Rattle.commands.specs.declared.changed.Deed.TheVariants.{Keep, SetError}
@@ -26,6 +27,7 @@ use Rattle.commands.specs.Obeyed.{obeyed}
 use Rattle.commands.specs.declared.subject.Subject.{Subject}
 use Rattle.commands.specs.Subject.{Tells, Sees}
 use Rattle.commands.specs.Done.{done, done_by, saving, saving_by, settle, settles, Fits, Doable, outcome_of, Decides, Applied}
+use Rattle.commands.proofs.LastError.{accepted_error}
 use Rattle.commands.proofs.Settled.{not_zero, saving_settled, doable_settled}
 use Rattle.engine.specs.declared.answer.Step.{Step}
 use Rattle.engine.specs.Answers.{written_by, answered_of}
@@ -98,6 +100,14 @@ module _ (s : StoredState) (k : ℕ) (text b c : List ℕ) (written : Replied te
   pub cleared_taken : {o : Outcome} → o ≡ answered (with_error (state_of s) 0) text b → Takes s false o (Ok (record { deed = SetError 0; length = k })) c
   unfolding done saving settle Fits
   cleared_taken is = retold (is ∙ replies (with_error (state_of s) 0)) (record { outcome = refl; doable = record { fits = tt }; saves = refl })
+
+-- and no step of a line sets another last error than 0, or what it was
+pub taken_error : {s : StoredState} {asked : Bool} (line b : List ℕ) {c : List ℕ} {n k : ℕ} → FineState s →
+    Takes s asked (stepped (state_of s) line b) (Ok (record { deed = SetError n; length = k })) c → (n ≡ s.error) ⊎ (n ≡ 0)
+unfolding done settle
+taken_error {s} line b fine t =
+    let e = ap (λ (o : Outcome). o.state.error) t.outcome in
+    ⊎_elim (λ same. inl (e ∙ same)) (λ cleared. inr (e ∙ cleared)) (accepted_error (state_of s) line b fine.formed (sym (ap (λ (o : Outcome). o.number) t.outcome)))
 
 -- a listing of the volatile memory m
 pub list_taken : (s : StoredState) (m : StoredMemory) → s.volatile ≡ m → (q : Query) → first (query_ladder (memory_of m) q) ≡ 0 →

@@ -21,7 +21,7 @@ use Rattle.model.specs.Checklist.{asks_to_save}
 use Rattle.model.specs.PowerSwitch.{saves}
 use Rattle.model.specs.Trace.{refusal_text, printed}
 use Rattle.model.specs.Stored.{FineState, shaped, memory_of, state_of}
-use Rattle.std.specs.Prelude.{Some, None, Result, Ok, Err}
+use Rattle.std.specs.Prelude.{Some, None, IfSome, Result, Ok, Err}
 use Rattle.model.proofs.Basics.{either}
 use Rattle.model.proofs.Histories.Kept.{well_formed_kept}
 use Rattle.commands.specs.Done.{saving, saving_by, Doable, Applied}
@@ -34,7 +34,7 @@ use Rattle.facts.specs.Refusals.{outcome as told}
 use Rattle.model.specs.Tally.{Tally, counted}
 use Rattle.reply.specs.Lines.{Replied}
 use Rattle.session.specs.Feed.{lent, said, outcome}
-use Rattle.session.specs.Blocks.{Says, Answered, reason_number, due_by}
+use Rattle.session.specs.Blocks.{Says, Answered, OfRefusal, Reasoned, reason_number, due_by}
 use Rattle.session.specs.declared.due.Manner.{Manner as StoredManner}
 use Rattle.session.specs.declared.due.Due.{Due}
 use Rattle.session.proofs.Buffer.{Seen, seen, any_buffer, Writes, taken_writes, turned_down}
@@ -124,6 +124,18 @@ module _ (k : StoredManner) where
   due_explains : (settled : Result Step Refusal) → reason_number (due_by k settled).reason ≡ cond k.explaining (told settled) 0
   due_explains (Ok r) = reason_told k.explaining 0
   due_explains (Err why) = reason_told k.explaining (number_of why)
+
+  pub due_reasoned : (settled : Result Step Refusal) → Reasoned (due_by k settled)
+  due_reasoned (Ok r) = none_told k.explaining
+    where
+      none_told : (b : Bool) → IfSome (cond (b && false) (Some 0) None) OfRefusal
+      none_told true = tt
+      none_told false = tt
+  due_reasoned (Err why) = its_number (k.explaining && not (eqb (number_of why) 0))
+    where
+      its_number : (b : Bool) → IfSome (cond b (Some (number_of why)) None) OfRefusal
+      its_number true = record { why = why; number = refl }
+      its_number false = tt
 
 -- the same where the step was taken: it is settled and counted, it is said, and done
 module _ (k : StoredManner) (s : StoredState) (t : Tally) (fine : FineState s) (line b : List ℕ) (long : buffer_limit ≤ length b) (decided : Result Step Refusal) (c : List ℕ)

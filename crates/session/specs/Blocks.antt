@@ -1,5 +1,5 @@
 -- What a block of input does to a session that is stored: the definitions of Feed.antt, with the lent buffer.
-use Rattle.std.specs.Prelude.{ℕ, ◌+◌, ◌-◌, ◌≤◌, ◌<◌, ◌≡◌, ◌⊎◌, ◌&&◌, false, not, cond, eqb, List, [], ◌++◌, map, length, take, drop, Option, Some, None, Result, Ok, Err}
+use Rattle.std.specs.Prelude.{ℕ, ◌+◌, ◌-◌, ◌≤◌, ◌<◌, ◌≡◌, ◌⊎◌, ◌&&◌, false, not, cond, eqb, List, [], ◌++◌, map, length, take, drop, Option, Some, None, IfSome, Result, Ok, Err}
 use Rattle.model.specs.declared.State.{State as StoredState}
 use Rattle.model.specs.Limits.{buffer_limit}
 use Rattle.model.specs.Memory.{State}
@@ -53,6 +53,15 @@ due_with k n d = record { store = k.storing && saving d; reason = cond (k.explai
 abbrev pub due_by : StoredManner → Result Step Refusal → Due
 due_by k (Ok r) = due_with k 0 r.deed
 due_by k (Err why) = due_with k (number_of why) (SetError (number_of why))
+
+-- the number is a refusal's
+pub record OfRefusal (n : ℕ) : Type 0 where
+  pub why : Refusal
+  pub number : n ≡ number_of why
+
+-- what is to be told, if anything, is why a line was refused
+abbrev pub Reasoned : Due → Type 0
+Reasoned d = IfSome d.reason OfRefusal
 
 -- a session that begins
 pub record Begins (s : Session) : Type 0 where

@@ -4,7 +4,7 @@ ghost use Rattle.model.specs.Limits.{buffer_limit};
 ghost use Rattle.model.specs.Stored.{FineState};
 ghost use Rattle.model.specs.Tally.{empty_tally};
 ghost use Rattle.tally.specs.Counts.{tally_of};
-ghost use Rattle.session.specs.Blocks.{Begins, Answers, Feeds, Ends};
+ghost use Rattle.session.specs.Blocks.{Begins, Answers, Feeds, Ends, Reasoned};
 
 use crate::cut::{Kept, keep, nothing_held};
 use crate::due::{Due, Manner, due_behind, nothing_due};
@@ -58,7 +58,8 @@ pub fn begin() -> Session
 fn answer_line(k: Manner, s: Session, line: &[u8], out: &mut [u8]) -> Fed
     requires fine_state { FineState s.state }
     requires buffer_limit_in_bounds { buffer_limit ≤ length out.old }
-    ensures { Answers k s line.now out.old out.new result }
+    ensures answers { Answers k s line.now out.old out.new result }
+    ensures reasoned { Reasoned result.due }
 {
     let before = s.state;
     let decided = decide(
@@ -90,7 +91,8 @@ fn whole_lines(k: Manner, s: Session, block: &[u8], out: &mut [u8]) -> Fed
     requires fine_state { FineState s.state }
     requires nothing_held { s.held.count ≡ 0 }
     requires buffer_limit_in_bounds { buffer_limit ≤ length out.old }
-    ensures { Feeds k s block.now out.old out.new result }
+    ensures feeds { Feeds k s block.now out.old out.new result }
+    ensures reasoned { Reasoned result.due }
 {
     let fed = run_lines(k, s, block, out);
     let end = line_end(block, fed.used);
@@ -112,7 +114,8 @@ fn whole_lines(k: Manner, s: Session, block: &[u8], out: &mut [u8]) -> Fed
 fn held_line(k: Manner, s: Session, block: &[u8], out: &mut [u8]) -> Fed
     requires fine_state { FineState s.state }
     requires buffer_limit_in_bounds { buffer_limit ≤ length out.old }
-    ensures { Feeds k s block.now out.old out.new result }
+    ensures feeds { Feeds k s block.now out.old out.new result }
+    ensures reasoned { Reasoned result.due }
 {
     let end = line_end(block, 0);
     let held = keep(s.held, &block[..end]);
@@ -135,7 +138,8 @@ fn held_line(k: Manner, s: Session, block: &[u8], out: &mut [u8]) -> Fed
 pub fn feed(k: Manner, s: Session, block: &[u8], out: &mut [u8]) -> Fed
     requires fine_state { FineState s.state }
     requires buffer_limit_in_bounds { buffer_limit ≤ length out.old }
-    ensures { Feeds k s block.now out.old out.new result }
+    ensures feeds { Feeds k s block.now out.old out.new result }
+    ensures reasoned { Reasoned result.due }
 {
     if s.held.count == 0 {
         whole_lines(k, s, block, out)
@@ -148,7 +152,8 @@ pub fn feed(k: Manner, s: Session, block: &[u8], out: &mut [u8]) -> Fed
 pub fn finish(k: Manner, s: Session, out: &mut [u8]) -> Fed
     requires fine_state { FineState s.state }
     requires buffer_limit_in_bounds { buffer_limit ≤ length out.old }
-    ensures { Ends k s out.old out.new result }
+    ensures ends { Ends k s out.old out.new result }
+    ensures reasoned { Reasoned result.due }
 {
     if s.held.count == 0 {
         return Fed {

@@ -6,7 +6,7 @@ ghost use Rattle.model.specs.Trace.{refusal_text};
 ghost use Rattle.facts.specs.Refusals.{outcome};
 ghost use Rattle.reply.specs.Lines.{Replied};
 ghost use Rattle.engine.specs.Taken.{count_of};
-ghost use Rattle.session.specs.Blocks.{Says, Runs};
+ghost use Rattle.session.specs.Blocks.{Says, Runs, Reasoned};
 
 use crate::due::{Manner, due_behind, is_due, nothing_due};
 use crate::feed::{Fed, Session};
@@ -59,7 +59,8 @@ pub fn say_settled(settled: Result<Step, Refusal>, out: &mut [u8]) -> usize
 pub fn run_lines(k: Manner, s: Session, block: &[u8], out: &mut [u8]) -> Fed
     requires fine_state { FineState s.state }
     requires buffer_limit_in_bounds { buffer_limit ≤ length out.old }
-    ensures { Runs k s block.now out.old out.new result }
+    ensures runs { Runs k s block.now out.old out.new result }
+    ensures reasoned { Reasoned result.due }
 {
     let State {
         mut volatile,

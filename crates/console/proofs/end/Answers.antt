@@ -22,13 +22,13 @@ kept c = search rules
 within : (c : After-finish-last) → c.finish-last.result.written ≤ length c.finish-last.new.out
 within c =
     let e : length c.finish-last.new.out ≡ length c.args.out.now = search rules in
-    omega (arith, e, c.finish-last.ensures.room)
+    omega (arith, e, c.finish-last.ensures.ends.room)
 
 pub slice_bounds-write_last-end-2 : goal.slice_bounds-write_last-end-2
 slice_bounds-write_last-end-2 c = sym (length-take-le _ _ (within (goal.at.slice_bounds-write_last-end-2 c).After-finish-last))
 
 pub write_last-requires : goal.write_last-requires
-write_last-requires c = replied_first c.finish-last.ensures.puts
+write_last-requires c = replied_first c.finish-last.ensures.ends.puts
 
 pub put_tally-size-requires : goal.put_tally-size-requires
 put_tally-size-requires c = omega (arith, kept (goal.at.put_tally-size-requires c).After-finish-last, c.requires.longest_tally_in_bounds)
@@ -42,7 +42,7 @@ first c =
     let w = c.put_tally-size.ensures in
     let e : length c.finish-last.new.out ≡ length c.args.out.now = search rules in
     let p = wrote_first (omega (arith, w.wrote.place, w.upper_bound, e, c.requires.longest_tally_in_bounds)) w.wrote in
-    (p.0, p.1 ∙ ap tally_text c.finish-last.ensures.tally)
+    (p.0, p.1 ∙ ap tally_text c.finish-last.ensures.ends.tally)
 
 pub slice_bounds-write_tally-end : goal.slice_bounds-write_tally-end
 slice_bounds-write_tally-end c = (first (goal.at.slice_bounds-write_tally-end c).After-put_tally-size).0

@@ -16,7 +16,7 @@ use Rattle.console.proofs.serve.Goals as goal
 
 -- the part that was fed lies in the block
 used : (c : After-feed-fed) → c.loop-at.at + c.feed-fed.result.used ≤ length c.args.block.now
-used c = omega (arith, c.feed-fed.ensures.within, rest_long c.args.block.now c.loop-at.at, c.loop-at.invariant.within)
+used c = omega (arith, c.feed-fed.ensures.feeds.within, rest_long c.args.block.now c.loop-at.at, c.loop-at.invariant.within)
 
 -- the buffer is as long as it was
 kept_long : (c : After-feed-fed) → length c.feed-fed.new.out ≡ length c.loop-at.out
@@ -49,26 +49,26 @@ slice_bounds-write_answers-end c = omega (arith, used (goal.at.slice_bounds-writ
 
 pub slice_bounds-write_answers-end-in-loop-at : goal.slice_bounds-write_answers-end-in-loop-at
 slice_bounds-write_answers-end-in-loop-at c =
-    omega (arith, c.feed-fed.ensures.room, kept_long (goal.at.slice_bounds-write_answers-end-in-loop-at c).After-feed-fed, c.loop-at.invariant.long)
+    omega (arith, c.feed-fed.ensures.feeds.room, kept_long (goal.at.slice_bounds-write_answers-end-in-loop-at c).After-feed-fed, c.loop-at.invariant.long)
 
 pub slice_bounds-write_answers-end-in-loop-at-2 : goal.slice_bounds-write_answers-end-in-loop-at-2
 slice_bounds-write_answers-end-in-loop-at-2 c =
-    sym (length-take-le _ _ (omega (arith, c.feed-fed.ensures.room, kept_long (goal.at.slice_bounds-write_answers-end-in-loop-at-2 c).After-feed-fed, c.loop-at.invariant.long)))
+    sym (length-take-le _ _ (omega (arith, c.feed-fed.ensures.feeds.room, kept_long (goal.at.slice_bounds-write_answers-end-in-loop-at-2 c).After-feed-fed, c.loop-at.invariant.long)))
 
 pub write_answers-requires : goal.write_answers-requires
 write_answers-requires c =
     let l = c.loop-at in
-    part_handed c.args.s c.args.block.now l.session l.at l.invariant.held l.invariant.tally _ _ c.feed-fed.result _ c.feed-fed.ensures (l.at + c.feed-fed.result.used) refl
+    part_handed c.args.s c.args.block.now l.session l.at l.invariant.held l.invariant.tally _ _ c.feed-fed.result _ c.feed-fed.ensures.feeds (l.at + c.feed-fed.result.used) refl
 
 pub loop-at-smaller : goal.loop-at-smaller
 loop-at-smaller c =
-    let moved : 0 < c.feed-fed.result.used = c.feed-fed.ensures.moves (omega (arith, rest_long c.args.block.now c.loop-at.at, c.loop-at-test.true)) in
+    let moved : 0 < c.feed-fed.result.used = c.feed-fed.ensures.feeds.moves (omega (arith, rest_long c.args.block.now c.loop-at.at, c.loop-at-test.true)) in
     omega (arith, used (goal.at.loop-at-smaller c).After-feed-fed, moved)
 
 pub loop-at-preserved : goal.loop-at-preserved
 loop-at-preserved c =
     let l = c.loop-at in
-    let f = c.feed-fed.ensures in record {
+    let f = c.feed-fed.ensures.feeds in record {
       within = used (goal.at.loop-at-preserved c).After-feed-fed;
       fine = f.fine;
       long = kept_long (goal.at.loop-at-preserved c).After-feed-fed ∙ l.invariant.long;

@@ -22,17 +22,17 @@ pub hand_out_part-requires : goal.hand_out_part-requires
 hand_out_part-requires c =
     let a = c.args in
     let l = c.loop-at in
-    rw l.invariant.handed (part_handed a.k a.session.now a.block.now l.session l.at l.invariant.held _ _ c.feed-f.result c.feed-f.ensures (l.at + c.feed-f.result.used) refl _ _ c.put_image-size.ensures)
+    rw l.invariant.handed (part_handed a.k a.session.now a.block.now l.session l.at l.invariant.held _ _ c.feed-f.result c.feed-f.ensures.feeds (l.at + c.feed-f.result.used) refl _ _ c.put_image-size.ensures)
 
 pub loop-at-preserved : goal.loop-at-preserved
 loop-at-preserved c =
     let a = c.args in
     let l = c.loop-at in
     let f = c.feed-f in record {
-      within = omega (arith, f.ensures.within, rest_long a.block.now l.at, l.invariant.within);
-      fine = f.ensures.fine;
+      within = omega (arith, f.ensures.feeds.within, rest_long a.block.now l.at, l.invariant.within);
+      fine = f.ensures.feeds.fine;
       answers_long = search rules;
       image_long = search rules;
-      held = part_held a.k a.session.now a.block.now l.session l.at l.invariant.held _ _ f.result f.ensures (l.at + f.result.used) refl;
+      held = part_held a.k a.session.now a.block.now l.session l.at l.invariant.held _ _ f.result f.ensures.feeds (l.at + f.result.used) refl;
       handed = search rules;
     }

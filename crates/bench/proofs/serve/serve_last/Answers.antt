@@ -5,4 +5,4 @@ use Rattle.bench.proofs.serve.serve_last.Goals as goal
 pub hand_out_last-requires : goal.hand_out_last-requires
 hand_out_last-requires c =
     let f = c.finish-last in
-    last_handed c.args.k c.args.s c.args.out.now _ f.result f.ensures _ _ c.put_image-size.ensures
+    last_handed c.args.k c.args.s c.args.out.now _ f.result f.ensures.ends _ _ c.put_image-size.ensures

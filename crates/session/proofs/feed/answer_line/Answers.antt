@@ -22,8 +22,8 @@ applied-state-requires c =
     rw c.deed_of.ensures (doable_done a.k s (tally_of a.s.tally) c.requires.fine_state a.line.now a.out.now c.requires.buffer_limit_in_bounds c.decide-decided.result _
     (c.decide-decided.ensures s refl refl refl refl c.requires.fine_state) c.settled-done.result c.settled-done.ensures)
 
-pub returns : goal.returns
-returns c =
+pub returns-clause-answers : goal.returns-clause-answers
+returns-clause-answers c =
     let a = c.args in
     let s = a.s.state in
     let t = tally_of a.s.tally in

@@ -14,8 +14,8 @@ pub slice_bounds-keep-end : goal.slice_bounds-keep-end
 slice_bounds-keep-end c =
     sym (length-take-le _ c.args.block.now (end_inside c.args.block.now 0 _ (omega arith) c.line_end-end.ensures))
 
-pub returns-then-end-block : goal.returns-then-end-block
-returns-then-end-block c =
+pub returns-then-end-block-clause-feeds : goal.returns-then-end-block-clause-feeds
+returns-then-end-block-clause-feeds c =
     let end = c.line_end-end in
     rw c.nothing_due.ensures (held_on c.args.k c.args.s c.args.block.now c.args.out.now end.result c.keep-held.result c.requires.fine_state end.ensures c.if-end-block.true c.keep-held.ensures)
 
@@ -28,9 +28,9 @@ overflow_add-result c =
     let long : length c.args.block.now < 2 ^ 64 = search rules in
     record { fits = omega (arith, long, inside (goal.at.overflow_add-result c).Else-end-block) }
 
-pub returns : goal.returns
-returns c =
+pub returns-clause-feeds : goal.returns-clause-feeds
+returns-clause-feeds c =
     let end = c.line_end-end in
     let answered = c.answer_line-answered in
     held_ends c.args.k c.args.s c.args.block.now c.args.out.now _ _ end.result answered.result end.ensures
-    (inside (goal.at.returns c).Else-end-block) (c.line.ensures ∙ c.keep-held.ensures) answered.ensures
+    (inside (goal.at.returns-clause-feeds c).Else-end-block) (c.line.ensures ∙ c.keep-held.ensures) answered.ensures.answers

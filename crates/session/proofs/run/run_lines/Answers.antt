@@ -27,6 +27,8 @@ use Rattle.lines.proofs.Laws.{end_inside}
 use Rattle.lines.proofs.Places.{rest_long}
 use Rattle.session.proofs.Rest.{with_rest}
 use Rattle.session.proofs.Running.{run_start, run_idle, not_due, some_due}
+use Rattle.session.specs.Blocks.{Reasoned}
+use Rattle.session.proofs.Answering.{due_reasoned}
 use Rattle.session.proofs.Turning.{Turned, turned}
 use Rattle.session.proofs.run.run_lines.Invariants.{state_with}
 use Rattle.session.proofs.run.run_lines.Goals.{After-say_settled-written, else-loop-out-test, then-loop-out-test+then-is_due-end}
@@ -38,6 +40,7 @@ loop-out-init c =
     let places : length s.tally.counts ≡ numbers = search rules in record {
       run = rw c.nothing_due-due.ensures (run_start c.args.k s.state (tally_of s.tally) c.args.block.now c.args.out.now c.requires.fine_state);
       places = places;
+      reasoned = rw c.nothing_due-due.ensures tt;
     }
 
 -- ---- a line that ends in the block
@@ -92,6 +95,10 @@ said c =
 stay : (c : After-say_settled-written) → length c.count_in-total.new.counts ≡ numbers
 stay c = search rules
 
+-- what is told is why the line was refused
+explained : (c : After-say_settled-written) → Reasoned c.due_behind-due.result
+explained c = rw c.due_behind-due.ensures (due_reasoned c.args.k c.settled-done.result)
+
 pub overflow_add-written : goal.overflow_add-written
 overflow_add-written c =
     let long : length c.args.out.now < 2 ^ 64 = search rules in
@@ -118,51 +125,51 @@ removed_at-volatile-requires c = remove_fits (said (goal.at.removed_at-volatile-
 pub loop-out-preserved-in-Err : goal.loop-out-preserved-in-Err
 loop-out-preserved-in-Err c =
     let turn = (goal.at.loop-out-preserved-in-Err c).After-say_settled-written in
-    record { run = (said turn).next (applied_refused (ap deed_of c.in-Err.is) c.from-error.ensures); places = stay turn }
+    record { run = (said turn).next (applied_refused (ap deed_of c.in-Err.is) c.from-error.ensures); places = stay turn; reasoned = explained turn }
 
 pub loop-out-preserved-in-Keep : goal.loop-out-preserved-in-Keep
 loop-out-preserved-in-Keep c =
-    let turn = (goal.at.loop-out-preserved-in-Keep c).After-say_settled-written in record { run = (said turn).next (applied_keep (did c.in-Ok.is c.in-Keep.is)); places = stay turn }
+    let turn = (goal.at.loop-out-preserved-in-Keep c).After-say_settled-written in record { run = (said turn).next (applied_keep (did c.in-Ok.is c.in-Keep.is)); places = stay turn; reasoned = explained turn }
 
 pub loop-out-preserved-in-SetError : goal.loop-out-preserved-in-SetError
 loop-out-preserved-in-SetError c =
-    let turn = (goal.at.loop-out-preserved-in-SetError c).After-say_settled-written in record { run = (said turn).next (applied_error (did c.in-Ok.is c.in-SetError.is)); places = stay turn }
+    let turn = (goal.at.loop-out-preserved-in-SetError c).After-say_settled-written in record { run = (said turn).next (applied_error (did c.in-Ok.is c.in-SetError.is)); places = stay turn; reasoned = explained turn }
 
 pub loop-out-preserved-in-Put : goal.loop-out-preserved-in-Put
 loop-out-preserved-in-Put c =
-    let turn = (goal.at.loop-out-preserved-in-Put c).After-say_settled-written in record { run = (said turn).next (applied_put (did c.in-Ok.is c.in-Put.is) (said turn).doable _ (c.put_at-volatile.ensures.stands_for, c.put_at-volatile.ensures.shaped)); places = stay turn }
+    let turn = (goal.at.loop-out-preserved-in-Put c).After-say_settled-written in record { run = (said turn).next (applied_put (did c.in-Ok.is c.in-Put.is) (said turn).doable _ (c.put_at-volatile.ensures.stands_for, c.put_at-volatile.ensures.shaped)); places = stay turn; reasoned = explained turn }
 
 pub loop-out-preserved-in-Remove : goal.loop-out-preserved-in-Remove
 loop-out-preserved-in-Remove c =
-    let turn = (goal.at.loop-out-preserved-in-Remove c).After-say_settled-written in record { run = (said turn).next (applied_remove (did c.in-Ok.is c.in-Remove.is) _ (c.removed_at-volatile.ensures.stands_for, c.removed_at-volatile.ensures.shaped)); places = stay turn }
+    let turn = (goal.at.loop-out-preserved-in-Remove c).After-say_settled-written in record { run = (said turn).next (applied_remove (did c.in-Ok.is c.in-Remove.is) _ (c.removed_at-volatile.ensures.stands_for, c.removed_at-volatile.ensures.shaped)); places = stay turn; reasoned = explained turn }
 
 pub loop-out-preserved-in-Enable : goal.loop-out-preserved-in-Enable
 loop-out-preserved-in-Enable c =
-    let turn = (goal.at.loop-out-preserved-in-Enable c).After-say_settled-written in record { run = (said turn).next (applied_enable (did c.in-Ok.is c.in-Enable.is)); places = stay turn }
+    let turn = (goal.at.loop-out-preserved-in-Enable c).After-say_settled-written in record { run = (said turn).next (applied_enable (did c.in-Ok.is c.in-Enable.is)); places = stay turn; reasoned = explained turn }
 
 pub loop-out-preserved-in-SetLevel : goal.loop-out-preserved-in-SetLevel
 loop-out-preserved-in-SetLevel c =
-    let turn = (goal.at.loop-out-preserved-in-SetLevel c).After-say_settled-written in record { run = (said turn).next (applied_level (did c.in-Ok.is c.in-SetLevel.is)); places = stay turn }
+    let turn = (goal.at.loop-out-preserved-in-SetLevel c).After-say_settled-written in record { run = (said turn).next (applied_level (did c.in-Ok.is c.in-SetLevel.is)); places = stay turn; reasoned = explained turn }
 
 pub loop-out-preserved-in-Save : goal.loop-out-preserved-in-Save
 loop-out-preserved-in-Save c =
-    let turn = (goal.at.loop-out-preserved-in-Save c).After-say_settled-written in record { run = (said turn).next (applied_save (did c.in-Ok.is c.in-Save.is)); places = stay turn }
+    let turn = (goal.at.loop-out-preserved-in-Save c).After-say_settled-written in record { run = (said turn).next (applied_save (did c.in-Ok.is c.in-Save.is)); places = stay turn; reasoned = explained turn }
 
 pub loop-out-preserved-in-Restore : goal.loop-out-preserved-in-Restore
 loop-out-preserved-in-Restore c =
-    let turn = (goal.at.loop-out-preserved-in-Restore c).After-say_settled-written in record { run = (said turn).next (applied_restore (did c.in-Ok.is c.in-Restore.is)); places = stay turn }
+    let turn = (goal.at.loop-out-preserved-in-Restore c).After-say_settled-written in record { run = (said turn).next (applied_restore (did c.in-Ok.is c.in-Restore.is)); places = stay turn; reasoned = explained turn }
 
 pub loop-out-preserved : goal.loop-out-preserved
 loop-out-preserved c =
-    let turn = (goal.at.loop-out-preserved c).After-say_settled-written in record { run = (said turn).next (applied_reset (did c.in-Ok.is c.in-Reset.is) _ (c.factory_memory-volatile.ensures.stands_for, c.factory_memory-volatile.ensures.shaped)); places = stay turn }
+    let turn = (goal.at.loop-out-preserved c).After-say_settled-written in record { run = (said turn).next (applied_reset (did c.in-Ok.is c.in-Reset.is) _ (c.factory_memory-volatile.ensures.stands_for, c.factory_memory-volatile.ensures.shaped)); places = stay turn; reasoned = explained turn }
 
 -- ---- the end
 
 pub invariant_of-tally : goal.invariant_of-tally
 invariant_of-tally c = record { sums = same_sums c.loop-out.invariant.run.tally (counted_sums _ _ c.args.s.tally.sums) }
 
-pub returns : goal.returns
-returns c =
+pub returns-clause-runs : goal.returns-clause-runs
+returns-clause-runs c =
     record {
       run = c.loop-out.invariant.run;
       held = refl;
