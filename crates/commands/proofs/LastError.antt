@@ -45,9 +45,9 @@ pub accepted_error : (st : State) (line b : List ℕ) → well_formed st ≡ tru
     ((stepped st line b).state.error ≡ st.error) ⊎ ((stepped st line b).state.error ≡ 0)
 accepted_error st line b w z = rw (step_taken st w line b (reading line) refl (sym (step_number st line b w) ∙ z)) (carried_error st (reading line) b)
 
-obeyed_error : (st : State) (c : Change) (b : List ℕ) → (obeyed st (asks (change c)) b).number ≡ 0 → (obeyed st (asks (change c)) b).state.error ≡ st.error
+change_leaves_error : (st : State) (c : Change) (b : List ℕ) → (obeyed st (asks (change c)) b).number ≡ 0 → (obeyed st (asks (change c)) b).state.error ≡ st.error
 unfolding obeyed carried_out next
-obeyed_error st c b z =
+change_leaves_error st c b z =
     let n = first (reading_ladder st (asks (change c))) in
     let e : n ≡ 0 = sym (judged_number st n (asks (change c)) b) ∙ z in
     ap (λ (o : Outcome). o.state.error) (judged_taken st n (asks (change c)) b (eq-eqb n 0 e)) ∙ changed_error st st.volatile c
@@ -56,4 +56,4 @@ obeyed_error st c b z =
 pub decided_error : {s : StoredState} {c : Change} {n : ℕ} → Decides s c (Ok (SetError n)) → n ≡ s.error
 unfolding done settle
 decided_error {s} {c} d =
-    ap (λ (o : Outcome). o.state.error) (d.outcome []) ∙ obeyed_error (state_of s) c [] (sym (ap (λ (o : Outcome). o.number) (d.outcome [])))
+    ap (λ (o : Outcome). o.state.error) (d.outcome []) ∙ change_leaves_error (state_of s) c [] (sym (ap (λ (o : Outcome). o.number) (d.outcome [])))

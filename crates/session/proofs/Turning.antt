@@ -19,12 +19,12 @@ use Rattle.commands.specs.Done.{Doable, Applied}
 use Rattle.engine.specs.declared.answer.Step.{Step}
 use Rattle.engine.specs.Taken.{Takes, deed_of, count_of, settled_by}
 use Rattle.lines.specs.Before.{before}
-use Rattle.session.specs.Blocks.{Says, Run, nothing, due_by}
+use Rattle.session.specs.Blocks.{Says, Run, Reasoned, nothing, due_by}
 use Rattle.session.specs.declared.due.Manner.{Manner as StoredManner}
 use Rattle.session.specs.declared.due.Due.{Due}
 use Rattle.session.proofs.Rest.{with_rest, rest_again, put_again}
 use Rattle.lines.proofs.Places.{line_at, rest, rest_long}
-use Rattle.session.proofs.Answering.{says_room, settled_outcome, settled_is, doable_done, answers_taken}
+use Rattle.session.proofs.Answering.{says_room, settled_outcome, settled_is, doable_done, due_reasoned, answers_taken}
 use Rattle.session.proofs.Running.{run_turn}
 
 -- a line's answer is said, and what was settled is still to be done: whatever stored state has it done goes on with the run
@@ -32,6 +32,7 @@ pub record Turned (k : StoredManner) (st₀ : State) (t₀ : Tally) (block out�
   pub room : w ≤ length out₀
   pub doable : Doable s.volatile (deed_of settled)
   pub next : {s' : StoredState} → Applied s (deed_of settled) s' → Run k st₀ t₀ block out₀ out s' t used w due
+  pub reasoned : Reasoned due
 
 module _ (k : StoredManner) (st₀ : State) (t₀ : Tally) (block out₀ out : List ℕ) (s : StoredState) (t : Tally) (at w : ℕ) (run : Run k st₀ t₀ block out₀ out s t at w nothing) where
   pub turned : (end : ℕ) → end ≡ at + before (drop at block) → end < length block → (line : List ℕ) → line ≡ line_at block at →
@@ -53,4 +54,5 @@ module _ (k : StoredManner) (st₀ : State) (t₀ : Tally) (block out₀ out : L
         next = λ {s'} a. rw (put_again out c w inside y)
             (run_turn k st₀ t₀ block out₀ out s t at w run end e h line y l
             (answers_taken k s t run.fine line (rest out w) long decided c takes settled settles y n p q t' tally due told a));
+        reasoned = rw told (due_reasoned k settled);
       }

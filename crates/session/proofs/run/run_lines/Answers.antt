@@ -9,6 +9,7 @@ use borrow.Author.Tests.{eqb-true, eqb-false}
 use lib.Dec.{eqb}
 use lib.ListN.{length, take, drop}
 use Rattle.std.specs.Prelude.{Result, Ok}
+use Rattle.model.specs.declared.Memory.{Memory as StoredMemory}
 use Rattle.model.specs.Stored.{state_of}
 use Rattle.model.specs.Tally.{counted}
 use Rattle.model.proofs.Basics.{or_split, or_false}
@@ -16,6 +17,7 @@ use Rattle.model.proofs.Memories.Fine.{state_of_lem}
 use Rattle.model.proofs.Histories.Tally.{same_sums, counted_sums}
 use Rattle.facts.specs.declared.refusals.Refusal.{Refusal}
 use Rattle.commands.specs.declared.changed.Deed.{Deed}
+use Rattle.commands.specs.Done.{Applied}
 use Rattle.commands.proofs.Deeds.{put_fits, remove_fits, applied_refused, applied_keep, applied_error, applied_put, applied_remove, applied_enable, applied_level, applied_save, applied_restore, applied_reset}
 use Rattle.engine.specs.declared.answer.Step.{Step}
 use Rattle.engine.specs.Taken.{deed_of}
@@ -25,10 +27,9 @@ use Rattle.tally.specs.Trimmed.{tally_with}
 use Rattle.lines.specs.Before.{before}
 use Rattle.lines.proofs.Laws.{end_inside}
 use Rattle.lines.proofs.Places.{rest_long}
+use Rattle.session.specs.Blocks.{Run, Reasoned}
 use Rattle.session.proofs.Rest.{with_rest}
 use Rattle.session.proofs.Running.{run_start, run_idle, not_due, some_due}
-use Rattle.session.specs.Blocks.{Reasoned}
-use Rattle.session.proofs.Answering.{due_reasoned}
 use Rattle.session.proofs.Turning.{Turned, turned}
 use Rattle.session.proofs.run.run_lines.Invariants.{state_with}
 use Rattle.session.proofs.run.run_lines.Goals.{After-say_settled-written, else-loop-out-test, then-loop-out-test+then-is_due-end}
@@ -91,13 +92,20 @@ said c =
     (tally_with c.count_in-total.new.counts c.count_in-total.result) (c.count_in-total.ensures ∙ ap (counted t) c.number_told.ensures)
     _ _ c.say_settled-written.ensures c.say_settled-written.auto.out _ c.due_behind-due.ensures
 
--- every number has its place still
-stay : (c : After-say_settled-written) → length c.count_in-total.new.counts ≡ numbers
-stay c = search rules
-
--- what is told is why the line was refused
-explained : (c : After-say_settled-written) → Reasoned c.due_behind-due.result
-explained c = rw c.due_behind-due.ensures (due_reasoned c.args.k c.settled-done.result)
+-- once it is done, the run goes on, every number has its place still, and what is to be told is why the line was refused
+goes_on : (c : After-say_settled-written) → {v p : StoredMemory} {level error : ℕ} →
+    let l = c.loop-out in
+    let a = c.args in
+    Applied (state_with l.volatile l.permanent a.s.state.position l.level l.error) (deed_of c.settled-done.result) (state_with v p a.s.state.position level error) →
+    record {
+      run : Run a.k (state_of a.s.state) (tally_of a.s.tally) a.block.now a.out.now (with_rest (with_rest l.out l.written c.decide-decided.new.reply) l.written c.say_settled-written.new.out)
+          (state_with v p a.s.state.position level error) (tally_with c.count_in-total.new.counts c.count_in-total.result) (c.line_end-end.result + 1) (l.written + c.say_settled-written.result) c.due_behind-due.result;
+      places : length c.count_in-total.new.counts ≡ numbers;
+      reasoned : Reasoned c.due_behind-due.result;
+    }
+goes_on c done =
+    let places : length c.count_in-total.new.counts ≡ numbers = search rules in
+    record { run = (said c).next done; places = places; reasoned = (said c).reasoned }
 
 pub overflow_add-written : goal.overflow_add-written
 overflow_add-written c =
@@ -124,44 +132,43 @@ removed_at-volatile-requires c = remove_fits (said (goal.at.removed_at-volatile-
 
 pub loop-out-preserved-in-Err : goal.loop-out-preserved-in-Err
 loop-out-preserved-in-Err c =
-    let turn = (goal.at.loop-out-preserved-in-Err c).After-say_settled-written in
-    record { run = (said turn).next (applied_refused (ap deed_of c.in-Err.is) c.from-error.ensures); places = stay turn; reasoned = explained turn }
+    goes_on (goal.at.loop-out-preserved-in-Err c).After-say_settled-written (applied_refused (ap deed_of c.in-Err.is) c.from-error.ensures)
 
 pub loop-out-preserved-in-Keep : goal.loop-out-preserved-in-Keep
 loop-out-preserved-in-Keep c =
-    let turn = (goal.at.loop-out-preserved-in-Keep c).After-say_settled-written in record { run = (said turn).next (applied_keep (did c.in-Ok.is c.in-Keep.is)); places = stay turn; reasoned = explained turn }
+    goes_on (goal.at.loop-out-preserved-in-Keep c).After-say_settled-written (applied_keep (did c.in-Ok.is c.in-Keep.is))
 
 pub loop-out-preserved-in-SetError : goal.loop-out-preserved-in-SetError
 loop-out-preserved-in-SetError c =
-    let turn = (goal.at.loop-out-preserved-in-SetError c).After-say_settled-written in record { run = (said turn).next (applied_error (did c.in-Ok.is c.in-SetError.is)); places = stay turn; reasoned = explained turn }
+    goes_on (goal.at.loop-out-preserved-in-SetError c).After-say_settled-written (applied_error (did c.in-Ok.is c.in-SetError.is))
 
 pub loop-out-preserved-in-Put : goal.loop-out-preserved-in-Put
 loop-out-preserved-in-Put c =
-    let turn = (goal.at.loop-out-preserved-in-Put c).After-say_settled-written in record { run = (said turn).next (applied_put (did c.in-Ok.is c.in-Put.is) (said turn).doable _ (c.put_at-volatile.ensures.stands_for, c.put_at-volatile.ensures.shaped)); places = stay turn; reasoned = explained turn }
+    let turn = (goal.at.loop-out-preserved-in-Put c).After-say_settled-written in goes_on turn (applied_put (did c.in-Ok.is c.in-Put.is) (said turn).doable _ (c.put_at-volatile.ensures.stands_for, c.put_at-volatile.ensures.shaped))
 
 pub loop-out-preserved-in-Remove : goal.loop-out-preserved-in-Remove
 loop-out-preserved-in-Remove c =
-    let turn = (goal.at.loop-out-preserved-in-Remove c).After-say_settled-written in record { run = (said turn).next (applied_remove (did c.in-Ok.is c.in-Remove.is) _ (c.removed_at-volatile.ensures.stands_for, c.removed_at-volatile.ensures.shaped)); places = stay turn; reasoned = explained turn }
+    goes_on (goal.at.loop-out-preserved-in-Remove c).After-say_settled-written (applied_remove (did c.in-Ok.is c.in-Remove.is) _ (c.removed_at-volatile.ensures.stands_for, c.removed_at-volatile.ensures.shaped))
 
 pub loop-out-preserved-in-Enable : goal.loop-out-preserved-in-Enable
 loop-out-preserved-in-Enable c =
-    let turn = (goal.at.loop-out-preserved-in-Enable c).After-say_settled-written in record { run = (said turn).next (applied_enable (did c.in-Ok.is c.in-Enable.is)); places = stay turn; reasoned = explained turn }
+    goes_on (goal.at.loop-out-preserved-in-Enable c).After-say_settled-written (applied_enable (did c.in-Ok.is c.in-Enable.is))
 
 pub loop-out-preserved-in-SetLevel : goal.loop-out-preserved-in-SetLevel
 loop-out-preserved-in-SetLevel c =
-    let turn = (goal.at.loop-out-preserved-in-SetLevel c).After-say_settled-written in record { run = (said turn).next (applied_level (did c.in-Ok.is c.in-SetLevel.is)); places = stay turn; reasoned = explained turn }
+    goes_on (goal.at.loop-out-preserved-in-SetLevel c).After-say_settled-written (applied_level (did c.in-Ok.is c.in-SetLevel.is))
 
 pub loop-out-preserved-in-Save : goal.loop-out-preserved-in-Save
 loop-out-preserved-in-Save c =
-    let turn = (goal.at.loop-out-preserved-in-Save c).After-say_settled-written in record { run = (said turn).next (applied_save (did c.in-Ok.is c.in-Save.is)); places = stay turn; reasoned = explained turn }
+    goes_on (goal.at.loop-out-preserved-in-Save c).After-say_settled-written (applied_save (did c.in-Ok.is c.in-Save.is))
 
 pub loop-out-preserved-in-Restore : goal.loop-out-preserved-in-Restore
 loop-out-preserved-in-Restore c =
-    let turn = (goal.at.loop-out-preserved-in-Restore c).After-say_settled-written in record { run = (said turn).next (applied_restore (did c.in-Ok.is c.in-Restore.is)); places = stay turn; reasoned = explained turn }
+    goes_on (goal.at.loop-out-preserved-in-Restore c).After-say_settled-written (applied_restore (did c.in-Ok.is c.in-Restore.is))
 
 pub loop-out-preserved : goal.loop-out-preserved
 loop-out-preserved c =
-    let turn = (goal.at.loop-out-preserved c).After-say_settled-written in record { run = (said turn).next (applied_reset (did c.in-Ok.is c.in-Reset.is) _ (c.factory_memory-volatile.ensures.stands_for, c.factory_memory-volatile.ensures.shaped)); places = stay turn; reasoned = explained turn }
+    goes_on (goal.at.loop-out-preserved c).After-say_settled-written (applied_reset (did c.in-Ok.is c.in-Reset.is) _ (c.factory_memory-volatile.ensures.stands_for, c.factory_memory-volatile.ensures.shaped))
 
 -- ---- the end
 
